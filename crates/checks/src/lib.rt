@@ -1,0 +1,3 @@
+// Tests that are many, so that the crates they test are proved once.
+#[cfg(test)]
+mod logs;

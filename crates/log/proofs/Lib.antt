@@ -1,0 +1,5 @@
+pub mod Numbers
+pub mod Trip
+pub mod Joins
+pub mod Fronts
+pub mod Wholes

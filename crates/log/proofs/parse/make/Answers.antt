@@ -1,0 +1,10 @@
+use mathlib.Core.Path.{ap}
+use mathlib.Core.List.{_∷_}
+use native.Mathlib.Omega.{arith}
+use borrow.Author.Needs.{needs}
+use Rattle.log.specs.Format.{big}
+use Rattle.log.proofs.Joins.{whole}
+use Rattle.log.proofs.parse.make.Needs as need
+
+pub returns : need.returns
+returns c = (ap (λ xs. 77 ∷ xs) (whole _ (big 4 (c .u32-field-process .result .0)) _ (c .u32-field-process .ensures) (omega arith)), search needs)
