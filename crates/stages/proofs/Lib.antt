@@ -1,0 +1,4 @@
+pub mod Search
+pub mod Places
+pub mod Law
+pub mod Runs

@@ -1,0 +1,4 @@
+pub mod Births
+pub mod Machine
+pub mod Model
+pub mod Runs
