@@ -1,0 +1,9 @@
+pub mod Asked
+pub mod Critical
+pub mod First
+pub mod Found
+pub mod Pairs
+pub mod Remaining
+pub mod Search
+pub mod Steps
+pub mod Turns

@@ -1,0 +1,3 @@
+mod frozen;
+mod histories;
+mod searches;
