@@ -53,7 +53,7 @@ pub enum EntryFault {
     NoMemory,
 }
 
-// Refusals of the log reader.
+// Refusals of the log reader, and of the tools that run a log.
 #[derive(Clone, Copy, Debug, PartialEq)]
 pub enum ReaderFault {
     // The detector or its order refused.
@@ -64,7 +64,7 @@ pub enum ReaderFault {
     Cut,
     // No record has this letter.
     UnknownLetter,
-    // The length does not fit the letter, or a field is out of its range.
+    // The length is 0 or does not fit the letter, or a field is out of its range.
     BadLength,
     // The log is longer than the tool takes.
     TooLong,

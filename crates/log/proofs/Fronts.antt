@@ -32,7 +32,7 @@ module _ (bs rest frame after : List ℕ) (n : ℕ) (e : bs ≡ big 2 n ++ rest)
   pub frame-refused : (letter : ℕ) (fields : List ℕ) (g : ReaderFault) → frame ≡ letter ∷ fields → (by-letter letter fields ≡ Err g) ⊎ Starved (by-letter letter fields) g → Refuses (decode bs) g
   frame-refused letter fields g is (inl h) = inl (decode-frame ∙ ap (λ b. framed b after) is ∙ ap (λ r. parsed r after) h)
   frame-refused letter fields g is (inr h) =
-      inr (h .0, (h .1 .0, (h .1 .1 .0, (after, decode-frame ∙ ap (λ b. framed b after) is ∙ ap (λ r. parsed r after) (h .1 .1 .1)))))
+      inr (h .0, (h .1 .0, (h .1 .1 .0, (h .1 .1 .1 .0, (after, decode-frame ∙ ap (λ b. framed b after) is ∙ ap (λ r. parsed r after) (h .1 .1 .1 .1))))))
 
 -- what next answers is what was written there
 pub returned : (here there : List ℕ) (r : Result (Option Record) ReaderFault) → Next here there r → Returned here there r

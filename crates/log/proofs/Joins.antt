@@ -44,6 +44,16 @@ paired-all {bs} {xs} {left} h even short =
     let all : length bs ≡ length (joined (big 2) xs) + length left = ap length (h .split) ∙ length-append (joined (big 2) xs) left in
     whole bs (joined (big 2) xs) left (h .split) (omega (arith, length-joined xs))
 
+-- the bytes that are left are some of them
+pub longer : {bs xs left : List ℕ} → Paired bs xs left → 2 ≤ length left → 2 ≤ length bs
+longer {bs} {xs} {left} h some = omega (arith, ap length (h .split), length-append (joined (big 2) xs) left)
+
+-- two bytes are a number
+some-pair : (bs : List ℕ) → 2 ≤ length bs → (t : ℕ) × ((ts : List ℕ) × (pairs bs ≡ t ∷ ts))
+some-pair [] h = absurd (omega arith)
+some-pair (a ∷ []) h = absurd (omega arith)
+some-pair (a ∷ b ∷ bs) h = (a * 256 + b, (pairs bs, refl))
+
 -- a target's bytes: process, count, and as many numbers
 module _ (fs r rest : List ℕ) (p n : ℕ) (e : fs ≡ big 4 p ++ r) (f : r ≡ big 1 n ++ rest) (long : length rest ≡ 2 * n) (few : n < 2 ^ 8) where
   pub target-body : (ts : List ℕ) → rest ≡ joined (big 2) ts → All (λ t. t < 2 ^ 16) ts → p < 2 ^ 32 → ((84 ∷ fs) ≡ body (target p ts)) × Small (target p ts)
@@ -52,12 +62,13 @@ module _ (fs r rest : List ℕ) (p n : ℕ) (e : fs ≡ big 4 p ++ r) (f : r ≡
       let count : r ≡ big 1 (length ts) ++ joined (big 2) ts = f ∙ (λ i. big 1 (same i) ++ is i) in
       (ap (λ xs. 84 ∷ xs) (then (big 4 p) _ e count), (s, omega arith, small))
 
-  pub target-read : (q : ℕ) × ((ts : List ℕ) × (by-letter 84 fs ≡ Ok (target q ts)))
-  target-read =
+  pub target-read : 2 ≤ length rest → (q : ℕ) × ((t : ℕ) × ((ts : List ℕ) × (by-letter 84 fs ≡ Ok (target q (t ∷ ts)))))
+  target-read some =
+      let s = some-pair rest some in
       let bs = big 4 p ++ (big 1 n ++ rest) in
       let fits : length bs ≡ 5 + 2 * field 4 1 bs = omega (arith, number-big 1 n few) in
-      subst (λ xs. (q : ℕ) × ((ts : List ℕ) × (by-letter 84 xs ≡ Ok (target q ts)))) (sym (then (big 4 p) _ e f))
-      (field 0 4 bs, (pairs rest, ap (λ t. sized t (target (field 0 4 bs) (pairs rest))) (eq-eqb _ _ fits)))
+      subst (λ xs. (q : ℕ) × ((t : ℕ) × ((ts : List ℕ) × (by-letter 84 xs ≡ Ok (target q (t ∷ ts)))))) (sym (then (big 4 p) _ e f))
+      (field 0 4 bs, (s .0, (s .1 .0, ap (λ t. sized t (target (field 0 4 bs) (pairs rest))) (eq-eqb _ _ fits) ∙ ap (λ l. Ok (target (field 0 4 bs) l)) (s .1 .1))))
 
 -- a byte that is 0 or 1, from what it says
 pub flag-byte : (b : ℕ) → b ≤ 1 → b ≡ cond (eqb b 1) 1 0

@@ -82,6 +82,7 @@ pub data Front : Type 0 where
   got : Item → List ℕ → Front
   refused : ReaderFault → Front
 
+-- a record that was read, or refused, with the bytes after it
 abbrev pub parsed : Result Item ReaderFault → List ℕ → Front
 parsed (Ok i) rest = got i rest
 parsed (Err f) rest = refused f
@@ -91,6 +92,7 @@ abbrev pub framed : List ℕ → List ℕ → Front
 framed [] rest = refused BadLength
 framed (letter ∷ bs) rest = parsed (by-letter letter bs) rest
 
+-- what stands at the front of some bytes: two bytes of length, then that many bytes
 abbrev pub decode : List ℕ → Front
 decode [] = end
 decode (a ∷ []) = refused Cut

@@ -19,9 +19,9 @@ use Rattle.log.specs.Item.{Item, item, target}
 use Rattle.log.specs.Format.{body, encode, Small, Writable}
 use Rattle.log.specs.Decode.{by-letter, Front, end, got, refused, decode}
 
--- want of memory is met only for the list of a target's prerequisites
+-- want of memory is met only for the list of a target's prerequisites, and only where there are some
 abbrev pub Starved : Result Item ReaderFault → ReaderFault → Type 0
-Starved r f = (f ≡ Entry NoMemory) × ((p : ℕ) × ((ts : List ℕ) × (r ≡ Ok (target p ts))))
+Starved r f = (f ≡ Entry NoMemory) × ((p : ℕ) × ((t : ℕ) × ((ts : List ℕ) × (r ≡ Ok (target p (t ∷ ts))))))
 
 -- a letter and the bytes that follow it: they are the record's own, or the letter's reading refuses them
 abbrev pub Parses : ℕ → List ℕ → Result Record ReaderFault → Type 0
@@ -30,7 +30,7 @@ Parses letter bs (Err f) = (by-letter letter bs ≡ Err f) ⊎ Starved (by-lette
 
 -- a fault is the refusal of what stands at the front, or there was no memory for a target's list
 abbrev pub Refuses : Front → ReaderFault → Type 0
-Refuses front f = (front ≡ refused f) ⊎ ((f ≡ Entry NoMemory) × ((p : ℕ) × ((ts : List ℕ) × ((rest : List ℕ) × (front ≡ got (target p ts) rest)))))
+Refuses front f = (front ≡ refused f) ⊎ ((f ≡ Entry NoMemory) × ((p : ℕ) × ((t : ℕ) × ((ts : List ℕ) × ((rest : List ℕ) × (front ≡ got (target p (t ∷ ts)) rest))))))
 
 -- what stands at the front of some bytes: nothing, a record byte for byte, or what is refused
 abbrev pub Finds : List ℕ → Found → Type 0

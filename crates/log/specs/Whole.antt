@@ -33,17 +33,18 @@ pub record Stop : Type 0 where
   pub place : ℕ
   pub fault : ReaderFault
 
--- from some last bytes of a log of this size on
+-- what is read from the last bytes of a log of this size: the records with their places, and the refusal that ends them, if any
 pub data Reads (size : ℕ) : List ℕ → List Record-at → Option Stop → Type 0 where
   ends : {bs : List ℕ} → decode bs ≡ end → Reads size bs [] None
   stops : {bs : List ℕ} (f : ReaderFault) → decode bs ≡ refused f → Reads size bs [] (Some (record { place = size - length bs; fault = f }))
   goes-on : {bs : List ℕ} {xs : List Record-at} {e : Option Stop} (i : Item) (rest : List ℕ) → decode bs ≡ got i rest → Reads size rest xs e → Reads size bs (record { place = size - length bs; says = i } ∷ xs) e
 
--- from the first byte on: the version, then the records
+-- what is read from a whole log: the version, then the records
 pub data Reads-log : List ℕ → List Record-at → Option Stop → Type 0 where
   opened : {bs : List ℕ} {xs : List Record-at} {e : Option Stop} → Reads (suc (length bs)) bs xs e → Reads-log (1 ∷ bs) xs e
   unopened : {log : List ℕ} → ((bs : List ℕ) → log ≡ 1 ∷ bs → ⊥) → Reads-log log [] (Some (record { place = 0; fault = BadVersion }))
 
+-- what the program's values stand for
 abbrev pub record-of : Placed → Record-at
 record-of p = record { place = p .place; says = item (p .record) }
 

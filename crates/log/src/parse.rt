@@ -4,7 +4,7 @@ ghost use mathlib.Core.List.{_++_};
 ghost use Prim.Native.Nat.{_≤_, _%_, _<_, _^_};
 ghost use lib.ListN.{length};
 ghost use Rattle.std.specs.Of.Vec.{vec-items};
-ghost use Rattle.std.specs.Vec.{made};
+ghost use Rattle.std.specs.Results.{Cases};
 ghost use Rattle.std.specs.shelf.Lists.{All, joined};
 ghost use Rattle.log.specs.Format.{big};
 ghost use Rattle.log.specs.Reading.{Parses};
@@ -85,7 +85,7 @@ fn make(fields: &[u8]) -> Result<Record<'_>, ReaderFault>
 // The numbers in pairs of bytes.
 fn numbers(heap: Global, bytes: &[u8]) -> Result<Vec<u16>, AllocError>
     requires { ⌜ length (now bytes) % 2 ≡ 0 ⌝ }
-    ensures { λ r. ⌜ made r (λ v. (now (bytes .entry) ≡ joined (big 2) (vec-items v)) × All (λ t. t < 2 ^ 16) (vec-items v)) ⌝ }
+    ensures { λ r. ⌜ Cases r (λ v. (now (bytes .entry) ≡ joined (big 2) (vec-items v)) × All (λ t. t < 2 ^ 16) (vec-items v)) (λ _. 2 ≤ length (now (bytes .entry))) ⌝ }
 {
     let mut all = Vec::new(heap);
     let mut left = bytes;

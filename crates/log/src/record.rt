@@ -1,7 +1,7 @@
 // What one record of a log says. A path is the part of the log that it stands in.
 #[derive(Drop)]
 pub enum Record<'a> {
-    // B: a process is born, of a parent (0: none) and for a target (0: none).
+    // B: a process is born, of a parent (0 for the session) and for a target (0 for none).
     Birth {
         process: u32,
         parent: u32,
@@ -11,7 +11,7 @@ pub enum Record<'a> {
     Make {
         process: u32,
     },
-    // T: a make declares its next target, with some of its earlier targets as prerequisites.
+    // T: a make declares its next target, with the numbers of its prerequisites.
     Target {
         process: u32,
         prerequisites: Vec<u16>,

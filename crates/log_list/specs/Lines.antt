@@ -71,10 +71,11 @@ tail (removal p d i last path) = shown-path path
 tail (post p f) = []
 tail (await p f) = []
 
--- a record's line: its place and letter, its numbers, the rest
+-- how a record's line begins: its place and letter, its numbers
 abbrev pub head : Record-at → List ℕ
 head r = decimal (r .place) ++ (32 ∷ letter (r .says) ∷ fields (numbers (r .says)))
 
+-- a record's line: its beginning, the rest, the end of the line
 abbrev pub line : Record-at → List ℕ
 line r = head r ++ (tail (r .says) ++ (10 ∷ []))
 
@@ -88,6 +89,7 @@ abbrev pub last-line : ℕ → Option Stop → List ℕ
 last-line count None = 69 ∷ 32 ∷ (decimal count ++ (10 ∷ []))
 last-line count (Some stop) = refusal-line (reader-number (stop .fault)) (stop .place)
 
+-- the text of a log: a line for each record, and the last line
 abbrev pub listing : List Record-at → Option Stop → List ℕ
 listing rs stop = joined line rs ++ last-line (length rs) stop
 
