@@ -1,0 +1,4 @@
+pub mod Held
+pub mod Reaching
+pub mod Rows
+pub mod Serials
