@@ -1,4 +1,0 @@
-pub mod Held
-pub mod Reaching
-pub mod Rows
-pub mod Serials
