@@ -56,8 +56,9 @@ def declared(root):
                 continue
             it = HEAD.match(line)
             if it and not re.match(r"goal\.", it.group(3)):
+                defined = re.match(r"^(?:\s*(?:abbrev|unfoldable)\s|\S)", line)
                 for word in it.group(2).split():
-                    names[word] = names.get(word, False) or bool(re.search(r"(?:^|→ )Type [01]$", it.group(3).strip()))
+                    names[word] = names.get(word, False) or bool(defined and re.search(r"(?:^|→ )Type [01]$", it.group(3).strip()))
     return names
 
 

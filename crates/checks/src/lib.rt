@@ -1,3 +1,5 @@
 // Tests that are many, so that the crates they test are proved once.
+#![tactic(auto)]
+
 #[cfg(test)]
 mod logs;

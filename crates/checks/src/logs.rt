@@ -1,8 +1,8 @@
 // Logs at the edges of the format. What is expected comes from the rules of the log format.
-use trace_log::contents::{Contents, read_all};
-use trace_log::record::Record;
 use std::alloc::{AllocError, Global};
 use std::test::Fail;
+use trace_log::contents::{Contents, read_all};
+use trace_log::record::Record;
 
 // How many records are read, and the number and the place of the refusal, or zeros.
 fn outcome(heap: Global, log: &[u8]) -> Result<(usize, u8, usize), AllocError> {

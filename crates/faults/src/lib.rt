@@ -1,5 +1,7 @@
 // Why input is refused. Each layer has its own faults, and the layer above carries them whole, so that a refusal keeps its number up
 // to the printed line.
+#![tactic(auto)]
+
 ghost use Rattle.std.specs.Prelude.{◌≡◌};
 ghost use Rattle.faults.specs.declared.EntryFault.TheVariants.{Order, NoMemory};
 ghost use Rattle.faults.specs.declared.ReaderFault.TheVariants.{Entry};

@@ -36,14 +36,14 @@ posted false o e = absurd (none≢some e)
 
 module _ (m : Machine) (right : Right m) (s : Flagged m.State) (v : Sound m s) where
   -- the order below moved on, and the pairs stayed
-  same_pairs : (b : m.State) → m.Valid b → Advanced (m.means s.below) (m.means b) → Advanced (flag_meaning (m.means s.below) s.pairs) (flag_meaning (m.means b) s.pairs)
+  same_pairs : (b : m.State) → m.valid b → Advanced (m.means s.below) (m.means b) → Advanced (flag_meaning (m.means s.below) s.pairs) (flag_meaning (m.means b) s.pairs)
   same_pairs b vb on =
       let ax = right.lawful s.below v.below in
       let ay = right.lawful b vb in
       flag_advanced (m.means s.below) (m.means b) ax ay on s.pairs s.pairs v.pairs
       (sound_stays (m.means s.below) (m.means b) ax ay on (reverse s.pairs) v.pairs) (λ z h. h) (λ z h. inl h)
 
-  pairs_stay : (b : m.State) → m.Valid b → Advanced (m.means s.below) (m.means b) → SoundPairs (m.means b) (reverse s.pairs)
+  pairs_stay : (b : m.State) → m.valid b → Advanced (m.means s.below) (m.means b) → SoundPairs (m.means b) (reverse s.pairs)
   pairs_stay b vb on = sound_stays (m.means s.below) (m.means b) (right.lawful s.below v.below) (right.lawful b vb) on (reverse s.pairs) v.pairs
 
   -- an event of the order below
@@ -52,12 +52,12 @@ module _ (m : Machine) (right : Right m) (s : Flagged m.State) (v : Sound m s) w
   below_taken e (Ok b) is =
       let h = right.taken s.below e b v.below is in
       record {
-        advanced = same_pairs b h.Valid h.advanced;
+        advanced = same_pairs b h.valid h.advanced;
         lives = h.lives;
-        Valid = record {
-          below = h.Valid;
+        valid = record {
+          below = h.valid;
           posts = λ i k e. h.advanced.known_stays k (v.posts i k e);
-          pairs = pairs_stay b h.Valid h.advanced;
+          pairs = pairs_stay b h.valid h.advanced;
         };
       }
 
@@ -66,16 +66,16 @@ module _ (m : Machine) (right : Right m) (s : Flagged m.State) (v : Sound m s) w
   post_taken p f (Ok r) is =
       let h = right.given s.below p r.0 r.1 v.below is in
       record {
-        advanced = same_pairs r.1 h.Valid h.advanced;
+        advanced = same_pairs r.1 h.valid h.advanced;
         lives = h.lives;
-        Valid = record {
-          below = h.Valid;
+        valid = record {
+          below = h.valid;
           posts = λ i k e.
               ⊎_elim
               (λ new. let held = new.1 in let same : r.0 ≡ k = cc in subst (λ t. (m.means r.1).known t ≡ true) same h.known)
               (λ old. h.advanced.known_stays k (v.posts i k old))
               (set_cases s.posts (f - 1) i (Some r.0) e);
-          pairs = pairs_stay r.1 h.Valid h.advanced;
+          pairs = pairs_stay r.1 h.valid h.advanced;
         };
       }
 
@@ -91,7 +91,7 @@ module _ (m : Machine) (right : Right m) (s : Flagged m.State) (v : Sound m s) w
       let y = m.means r.1 in
       let h = right.given s.below p r.0 r.1 v.below is in
       let ax = right.lawful s.below v.below in
-      let ay = right.lawful r.1 h.Valid in
+      let ay = right.lawful r.1 h.valid in
       let low = (ax.ranged k known).1 in
       let num = h.newest in
       let new : Pair = record { post = k; wait = r.0; earlier = row y k (reverse s.pairs) } in
@@ -102,12 +102,12 @@ module _ (m : Machine) (right : Right m) (s : Flagged m.State) (v : Sound m s) w
         newest = older r.0.number num (reverse s.pairs) v.pairs;
         earlier = refl;
       } in
-      let all : SoundPairs y (reverse (s.pairs ++ new ∷ [])) = subst (SoundPairs y) (sym (newest_push s.pairs new)) (sound, pairs_stay r.1 h.Valid h.advanced) in
+      let all : SoundPairs y (reverse (s.pairs ++ new ∷ [])) = subst (SoundPairs y) (sym (newest_push s.pairs new)) (sound, pairs_stay r.1 h.valid h.advanced) in
       record {
         advanced = flag_advanced x y ax ay h.advanced s.pairs (s.pairs ++ new ∷ []) v.pairs all (λ z i. has_append_left s.pairs (new ∷ []) z i)
             (λ z i. ⊎_elim inl (λ e. inr (let n = ap (λ w. w.wait.number) e in omega arith)) (has_push_cases s.pairs new z i));
         lives = h.lives;
-        Valid = record { below = h.Valid; posts = λ i j e. h.advanced.known_stays j (v.posts i j e); pairs = all };
+        valid = record { below = h.valid; posts = λ i j e. h.advanced.known_stays j (v.posts i j e); pairs = all };
       }
 
   await_after_taken : (p f : ℕ) (o : Option Timestamp) → post_of s f ≡ o → IfOk (await_after m s p o) (EventTaken (flagged m) s (await p f))
@@ -131,12 +131,12 @@ module _ (m : Machine) (right : Right m) (s : Flagged m.State) (v : Sound m s) w
   stamp_taken p (Ok r) is =
       let h = right.given s.below p r.0 r.1 v.below is in
       record {
-        advanced = same_pairs r.1 h.Valid h.advanced;
+        advanced = same_pairs r.1 h.valid h.advanced;
         lives = h.lives;
-        Valid = record {
-          below = h.Valid;
+        valid = record {
+          below = h.valid;
           posts = λ i k e. h.advanced.known_stays k (v.posts i k e);
-          pairs = pairs_stay r.1 h.Valid h.advanced;
+          pairs = pairs_stay r.1 h.valid h.advanced;
         };
         newest = h.newest;
         known = h.known;
@@ -188,5 +188,5 @@ none_posted (suc n) zero e = none≢some e
 none_posted (suc n) (suc i) e = none_posted n i e
 
 -- a new layer over a valid order is valid
-pub new_sound : (m : Machine) (s : m.State) → m.Valid s → (t : Flagged m.State) → t ≡ new_flags s → Sound m t
+pub new_sound : (m : Machine) (s : m.State) → m.valid s → (t : Flagged m.State) → t ≡ new_flags s → Sound m t
 new_sound m s v t is = subst (Sound m) (sym is) (record { below = v; posts = λ i k e. absurd (none_posted 32 i e); pairs = tt })

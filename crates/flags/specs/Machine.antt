@@ -98,7 +98,7 @@ SoundPairs x (y ∷ ys) = SoundPair x y ys × SoundPairs x ys
 
 -- What reachable states keep: the order below is valid, the posts are known there, and the pairs are sound.
 pub record Sound (m : Machine) (s : Flagged m.State) : Type 0 where
-  pub below : m.Valid s.below
+  pub below : m.valid s.below
   pub posts : (i : ℕ) (k : Timestamp) → slice_index_or s.posts i None ≡ Some k → (m.means s.below).known k ≡ true
   pub pairs : SoundPairs (m.means s.below) (reverse s.pairs)
 
@@ -110,5 +110,5 @@ flagged m = record {
   stamp = λ s p. stamp_kept s (m.stamp s.below p);
   any = λ s. m.any s.below;
   means = λ s. flag_meaning (m.means s.below) s.pairs;
-  Valid = Sound m;
+  valid = Sound m;
 }

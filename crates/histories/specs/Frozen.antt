@@ -24,5 +24,5 @@ frozen = record {
   stamp = λ _ _. Err NotLive;
   any = λ _. false;
   means = λ _. at_rest;
-  Valid = λ _. Unit {0};
+  valid = λ _. Unit {0};
 }

@@ -1,4 +1,6 @@
 // What is kept of the accesses on one key, how a new access is checked against them, and why those few checks are enough.
+#![tactic(auto)]
+
 mod accesses;
 mod attempts;
 mod checks;

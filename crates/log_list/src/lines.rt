@@ -6,9 +6,9 @@ ghost use Rattle.trace_log.specs.Item.{item};
 ghost use Rattle.trace_log.specs.Whole.{record_of, stop_of};
 ghost use Rattle.log_list.specs.Lines.{hex as hex-of, head as head_of, shown_byte, shown_path, fields, tail, line, last_line, refusal_line, Lists, ListsWritten};
 
+use std::alloc::{AllocError, Global};
 use trace_log::contents::{Placed, Refusal, read_all};
 use trace_log::record::Record;
-use std::alloc::{AllocError, Global};
 
 // A digit in base sixteen.
 fn hex(digit: u8) -> u8

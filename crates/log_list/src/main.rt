@@ -1,4 +1,6 @@
 // Lists the records of a log, one to a line.
+#![tactic(auto)]
+
 mod lines;
 
 use lines::list;

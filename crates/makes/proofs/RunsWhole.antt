@@ -79,35 +79,35 @@ start_whole room = record {
 module _ {calls : List Call} (s : Build) (w : Whole calls s) where
   event_whole : {e : Told} {t : Build} → Did s e t → Later s t → EventTaken make_machine s e t → Whole (tell e ∷ calls) t
   event_whole (did_born {p} {q} {t} {h} e parent nobody) later taken = record {
-    sound = taken.Valid;
+    sound = taken.valid;
     follows = born_follows s w.follows w.sound p q t h e parent nobody later taken;
     timed = born_timed s w.timed p q t h e later;
     rowed = born_rowed s w.rowed p q t h later;
   }
   event_whole (did_step {p} {q} {t} {h} e parent makes few nobody) later taken = record {
-    sound = taken.Valid;
+    sound = taken.valid;
     follows = step_follows s w.follows w.sound p q t h e parent makes few nobody later taken;
-    timed = step_timed s w.follows w.sound w.timed p q t h e parent makes later taken.Valid;
+    timed = step_timed s w.follows w.sound w.timed p q t h e parent makes later taken.valid;
     rowed = step_rowed s w.rowed p q t h later;
   }
   event_whole (did_make {p} {i} own other) later taken = record {
-    sound = taken.Valid;
+    sound = taken.valid;
     follows = make_follows s w.follows w.sound p i own other later taken;
     timed = make_timed s w.timed p i later;
     rowed = make_rowed s w.rowed p i later;
   }
   event_whole (did_target {p} {i} {h} {ks} own at makes all room) later taken = record {
-    sound = taken.Valid;
+    sound = taken.valid;
     follows = target_follows s w.follows w.sound p i h ks own at makes room later taken;
     timed = target_timed s w.timed p h ks later;
-    rowed = target_rowed s w.follows w.sound w.rowed p i h ks own at makes all room later taken.Valid;
+    rowed = target_rowed s w.follows w.sound w.rowed p i h ks own at makes all room later taken.valid;
   }
   event_whole (did_death {p} {i} own) later taken =
       let on = death_follows s w.follows w.sound p i own later taken in
       record {
-        sound = taken.Valid;
+        sound = taken.valid;
         follows = on;
-        timed = death_timed s w.follows w.sound w.timed p i on taken.Valid later;
+        timed = death_timed s w.follows w.sound w.timed p i on taken.valid later;
         rowed = death_rowed s w.rowed p i later;
       }
 

@@ -19,7 +19,7 @@ all_passed (c ∷ cs) x ps = ap (λ b. refused_if b c.1 (checked cs x)) ps.0 ∙
 
 module _ (s : Build) (sound : Sound s) where
   kept_by : (e : Told) (t : Build) → tell_make_order s e ≡ Ok t → Sound t
-  kept_by e t ok = (make_right.taken s e t sound ok).Valid
+  kept_by e t ok = (make_right.taken s e t sound ok).valid
 
   birth_kept : (p q t h : ℕ) → parent_home s q ≡ Some h → Passed (birth_checks s p h t) → Sound (born s p h t)
   birth_kept p q t h at ps = kept_by (birth p q t) (born s p h t) (ap (birth_from s p t) at ∙ all_passed (birth_checks s p h t) (Ok (born s p h t)) ps)

@@ -72,7 +72,7 @@ module _ (s : Build) (sound : Sound s) where
       go true e nobody is declared-t room more = record {
         advanced = advanced s (born_at s p s.places (stand s.places h)) sound (born_later s sound more p h parent room nobody);
         lives = λ x. lives_born s.births p (stand s.places h) x;
-        Valid = born_sound s sound more p h parent room nobody;
+        valid = born_sound s sound more p h parent room nobody;
       }
       go false e nobody is declared-t room more =
           let ne = eqb-false t 0 e in
@@ -81,7 +81,7 @@ module _ (s : Build) (sound : Sound s) where
           record {
             advanced = advanced s (born_at s p (with_step s h t) (length s.places)) sound (stepped_later s sound more p h t parent room nobody made-is (omega arith) few);
             lives = λ x. lives_born s.births p (length s.places) x;
-            Valid = stepped_sound s sound more p h t parent room nobody made-is (omega arith) few;
+            valid = stepped_sound s sound more p h t parent room nobody made-is (omega arith) few;
           }
 
   make_taken : (p : ℕ) (o : Option ℕ) → MatchOption o (Nobody s.births p) (λ i. Found s.births p i) → IfOk (make_from s o) (EventTaken make_machine s (make p))
@@ -94,7 +94,7 @@ module _ (s : Build) (sound : Sound s) where
       record {
         advanced = advanced s (turned_make s i) sound (turned_later s sound more i f.within f.live passed.0 shallow room);
         lives = lives_moved s.births i (record { process = (birth_at s.births i).process; home = length s.places; live = (birth_at s.births i).live }) f.within refl refl;
-        Valid = turned_sound s sound more i f.within f.live passed.0 shallow room;
+        valid = turned_sound s sound more i f.within f.live passed.0 shallow room;
       })
 
   target_taken : (p : ℕ) (ks : List ℕ) (o : Option ℕ) → IfSome o (ParentHome s) → IfOk (target_from s ks o) (EventTaken make_machine s (target p ks))
@@ -109,7 +109,7 @@ module _ (s : Build) (sound : Sound s) where
       record {
         advanced = advanced s (declared s h ks) sound (declared_later s sound more h ks within is all room);
         lives = λ x. refl;
-        Valid = declared_sound s sound more h ks within is all room;
+        valid = declared_sound s sound more h ks within is all room;
       })
 
   death_taken : (p : ℕ) (o : Option ℕ) → MatchOption o (Nobody s.births p) (λ i. Found s.births p i) → IfOk (death_from s o) (EventTaken make_machine s (death p))
@@ -120,7 +120,7 @@ module _ (s : Build) (sound : Sound s) where
       record {
         advanced = advanced s (died s i) sound (died_later s sound more i f.within f.live);
         lives = lives_died s.births i (record { process = (birth_at s.births i).process; home = (birth_at s.births i).home; live = false }) f.within p refl f sound.births.only;
-        Valid = died_sound s sound more i f.within f.live;
+        valid = died_sound s sound more i f.within f.live;
       })
 
   event_taken : (e : Told) → IfOk (tell_make_order s e) (EventTaken make_machine s e)
@@ -140,7 +140,7 @@ module _ (s : Build) (sound : Sound s) where
       record {
         advanced = advanced s (counted s) sound (counted_later s sound more);
         lives = λ x. refl;
-        Valid = counted_sound s sound more;
+        valid = counted_sound s sound more;
         newest = refl;
         known = known_from (counted s) (record { number = s.number + 1; place = stand s.places h }) (record {
           from_one = omega arith;

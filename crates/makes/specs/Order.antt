@@ -12,5 +12,5 @@ make_machine = record {
   stamp = stamp_make_order;
   any = λ s. nat_lt 0 (place_at s.places 0).live;
   means = meaning;
-  Valid = Sound;
+  valid = Sound;
 }

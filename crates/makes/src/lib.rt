@@ -1,4 +1,6 @@
 // The make order: processes, makes inside makes, and targets with prerequisites.
+#![tactic(auto)]
+
 mod births;
 mod calls;
 mod climb;

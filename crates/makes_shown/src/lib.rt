@@ -1,4 +1,6 @@
 // The make order at work: under the flags layer, and worked rows that are evaluated.
+#![tactic(auto)]
+
 ghost use Rattle.std.specs.Prelude.{◌≡◌, true, length, IfOk};
 ghost use Rattle.makes.specs.Machine.{start};
 ghost use Rattle.makes.specs.Model.{make_model};

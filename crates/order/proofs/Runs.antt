@@ -61,12 +61,12 @@ ran_after m s none = refl
 ran_after m s (told {calls = cs} {t = t} {e = e} r ok) = sym (ap (λ z. result_unwrap_or z t) ok) ∙ ap (λ z. after_call m z (tell e)) (ran_after m s r)
 ran_after m s (given {calls = cs} {t = t} {p = p} r ok) = sym (ap (stamp_state t) ok) ∙ ap (λ z. after_call m z (stamp p)) (ran_after m s r)
 
-module _ (m : Machine) (right : Right m) (s : m.State) (Valid : m.Valid s) where
+module _ (m : Machine) (right : Right m) (s : m.State) (valid : m.valid s) where
   -- a run leads to valid states
-  pub ran_valid : {calls : List Call} {t : m.State} → Ran m s calls t → m.Valid t
-  ran_valid none = Valid
-  ran_valid (told r e) = (right.taken _ _ _ (ran_valid r) e).Valid
-  ran_valid (given r e) = (right.given _ _ _ _ (ran_valid r) e).Valid
+  pub ran_valid : {calls : List Call} {t : m.State} → Ran m s calls t → m.valid t
+  ran_valid none = valid
+  ran_valid (told r e) = (right.taken _ _ _ (ran_valid r) e).valid
+  ran_valid (given r e) = (right.given _ _ _ _ (ran_valid r) e).valid
 
   -- each accepted call takes one number
   pub ran_counted : {calls : List Call} {t : m.State} → Ran m s calls t → (m.means t).number ≡ (m.means s).number + length calls

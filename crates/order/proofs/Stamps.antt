@@ -15,7 +15,7 @@ no_answer true (Ok x) e = absurd (none≢some e)
 no_answer false (Ok x) e = absurd (none≢some e)
 
 -- none is given any more
-pub stamp_ended : (m : Machine) → Right m → (s : m.State) (p : ℕ) → m.Valid s → (m.means s).number ≡ last_number → is_ok (m.stamp s p) ≡ false
+pub stamp_ended : (m : Machine) → Right m → (s : m.State) (p : ℕ) → m.valid s → (m.means s).number ≡ last_number → is_ok (m.stamp s p) ≡ false
 stamp_ended m right s p v e =
     no_answer ((m.means s).lives p) (m.stamp s p)
     (right.refused s p v ∙ ap (λ b. cond ((m.means s).lives p) (cond b (Some UsedUp) None) (Some NotLive)) (eq-eqb (m.means s).number last_number e))

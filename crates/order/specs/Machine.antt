@@ -15,7 +15,7 @@ pub record Machine : Type 1 where
   pub any : State → Bool
   pub means : State → Meaning
   -- what a new state has and every accepted call keeps
-  pub Valid : State → Type 0
+  pub valid : State → Type 0
 
 -- A call from s to t answers r as the machine answers x: accepted, t is the machine's state; refused, t is s.
 abbrev pub Tells : {S U : Type 0} → Result S OrderFault → Result U OrderFault → S → S → Type 0

@@ -1,4 +1,6 @@
 // An order: a source of happens-before between timestamps. Several orders stand behind the one trait below.
+#![tactic(auto)]
+
 ghost use Rattle.std.specs.Prelude.{◌≡◌, ℕ, false, List, Decides};
 ghost use Rattle.order.specs.Events.{told, birth, make, death, post, await};
 ghost use Rattle.order.specs.Machine.{Machine, Tells, Stamps};
@@ -129,7 +131,7 @@ pub trait Order {
 
 // Whether a process lives now.
 fn lives_now<O: Order>(order: &O, process: u32) -> bool
-    ensures answer { result ≡ (machine.means (model order.now)).lives process }
+    ensures answer { result ≡ (O.machine.means (O.model order.now)).lives process }
 {
     order.lives(process)
 }
@@ -137,8 +139,8 @@ fn lives_now<O: Order>(order: &O, process: u32) -> bool
 // Whether a process lives, over a whole run: from a valid state in which nobody lived, exactly the processes live that were born and
 // have not died since.
 pub fn lives_since<O: Order>(order: &O, process: u32) -> bool
-    ensures answer { result ≡ (machine.means (model order.now)).lives process }
-    ensures run { (s : machine.State) (calls : List Call) → machine.valid s → ((p : ℕ) → (machine.means s).lives p ≡ false) → Ran machine s calls (model order.now) → Decides result (Alive process calls) }
+    ensures answer { result ≡ (O.machine.means (O.model order.now)).lives process }
+    ensures run { (s : O.machine.State) (calls : List Call) → O.machine.valid s → ((p : ℕ) → (O.machine.means s).lives p ≡ false) → Ran O.machine s calls (O.model order.now) → Decides result (Alive process calls) }
 {
     lives_now(order, process)
 }

@@ -1,4 +1,6 @@
 // The orders at work: a session over flags and stages, and worked rows that are evaluated.
+#![tactic(auto)]
+
 ghost use Rattle.std.specs.Prelude.{◌≡◌, true, length, IfOk};
 ghost use Rattle.order.specs.Runs.{Ran};
 ghost use Rattle.stages.specs.Machine.{stages, start};

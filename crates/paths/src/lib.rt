@@ -1,4 +1,6 @@
 // Paths: their form, a path that is borrowed from the bytes it was found in, and a path that owns its bytes.
+#![tactic(auto)]
+
 mod borrowed;
 mod form;
 mod held;

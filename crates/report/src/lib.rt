@@ -1,4 +1,6 @@
 // The lines that the tools print, one at a time, into a caller's buffer.
+#![tactic(auto)]
+
 ghost use Rattle.std.specs.Prelude.{◌≡◌, ◌+◌, ◌<◌, ◌≤◌, max, true, [], ◌∷◌, length, is_ok, decimal};
 ghost use Rattle.report.specs.Lines.{field, line_end, line_of, text, Put, Usual, Writes};
 

@@ -95,7 +95,7 @@ event_taken s (birth p parent stage) v =
       advanced = advanced s (s.births ++ x ∷ []) (omega (arith, length_push s.births x))
           (λ k low high. ap (λ y. y.stage) (get_or_append_left s.births (x ∷ []) _ (k - 1) (omega arith)));
       lives = λ q. ap (λ ys. is_some (place_of ys q)) (newest_push s.births x) ∙ some_cond (p == q) _ (place_of (reverse s.births) q);
-      Valid = still_counted s.number v passed.1.1.0;
+      valid = still_counted s.number v passed.1.1.0;
     })
 event_taken s (death p) v =
     passing (EventTaken stages s (death p)) (death_checks s p) (Ok (next s (map (ended p) s.births))) (λ passed. record {
@@ -103,7 +103,7 @@ event_taken s (death p) v =
           (λ k low high. ap (λ y. y.stage) (get_or-map (ended p) s.births (k - 1) _ _ (omega arith)));
       lives = λ q. ap (λ ys. is_some (place_of ys q)) (newest_map (ended p) s.births)
           ∙ ap is_some (place_ended (reverse s.births) p q) ∙ none_cond (p == q) (place_of (reverse s.births) q);
-      Valid = still_counted s.number v passed.1.0;
+      valid = still_counted s.number v passed.1.0;
     })
 event_taken s (make p) v = tt
 event_taken s (target p ts) v = tt
@@ -126,7 +126,7 @@ stamp_given s (Some place) v h =
     passing (λ (r : Timestamp × Staged). StampGiven stages s r.0 r.1) (((s.number == last_number), UsedUp) ∷ []) _ (λ passed. record {
       advanced = advanced s s.births (omega arith) (λ _ _ _. refl);
       lives = λ _. refl;
-      Valid = still_counted s.number v passed.0;
+      valid = still_counted s.number v passed.0;
       newest = refl;
       known = known_from (next s s.births) (record { number = s.number + 1; place = place }) (omega arith) (omega arith) h.0 (omega (arith, length-reverse s.births));
     })

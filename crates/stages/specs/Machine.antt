@@ -85,5 +85,5 @@ stages = record {
   stamp = λ s p. stamp_at s (place_of (reverse s.births) p);
   any = λ s. any_live (reverse s.births);
   means = λ s. record { number = s.number; lives = lives_in s; known = known_in s; before = before_in s };
-  Valid = λ s. s.number ≤ last_number;
+  valid = λ s. s.number ≤ last_number;
 }

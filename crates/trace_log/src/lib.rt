@@ -1,4 +1,6 @@
 // The log that a tracer writes: its records, and a reader that hands them out one at a time.
+#![tactic(auto)]
+
 pub mod contents;
 mod parse;
 pub mod reader;

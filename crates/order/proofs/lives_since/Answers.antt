@@ -4,7 +4,7 @@ use Rattle.order.proofs.lives_since.Goals as goal
 
 pub returns : goal.returns
 returns g c = record {
-  answer = c.lives-now.ensures.answer;
-  run = λ s calls Valid nobody ran.
-      Decides-at _ _ c.lives-now.ensures.answer (ran_lives g.O.Order.machine g.met.O.Order.right s Valid nobody ran c.args.process);
+  answer = c.lives_now.ensures.answer;
+  run = λ s calls valid nobody ran.
+      Decides-at _ _ c.lives_now.ensures.answer (ran_lives g.O.Order.machine g.met.O.Order.right s valid nobody ran c.args.process);
 }

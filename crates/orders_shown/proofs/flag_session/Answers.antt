@@ -19,4 +19,4 @@ returns c =
     let r2 = told_more m s (birth 11 0 1) r1 c.birth-2.ensures.value c.tell-2.ensures.answer c.unwrap-2.ensures in
     let r3 = told_more m s (post 10 1) r2 c.post.ensures.value c.tell-3.ensures.answer c.unwrap-3.ensures in
     let r4 = told_more m s (await 11 1) r3 c.wait.ensures.value c.tell-4.ensures.answer c.unwrap-4.ensures in
-    record { run = r4; Valid = ran_valid m (flagged_right stages stages_right) s (new_sound stages (start 2) (omega arith) s refl) r4 }
+    record { run = r4; valid = ran_valid m (flagged_right stages stages_right) s (new_sound stages (start 2) (omega arith) s refl) r4 }

@@ -8,11 +8,11 @@ use Rattle.histories.proofs.Steps.{looked_none, looked_more}
 use Rattle.histories.proofs.example.made_and_looked_up.Goals as goal
 
 -- new, a timestamp, the attempt; another timestamp, the lookup
-two_looked : (m : Machine) → Right m → (s t u : m.State) (p q : ℕ) (a b : Timestamp) → m.Valid s → m.stamp s p ≡ Ok (a, t) → m.stamp t q ≡ Ok (b, u)
+two_looked : (m : Machine) → Right m → (s t u : m.State) (p q : ℕ) (a b : Timestamp) → m.valid s → m.stamp s p ≡ Ok (a, t) → m.stamp t q ≡ Ok (b, u)
     → (k l o : KeptAttempts) → k ≡ untried → l ≡ tried k a → o ≡ looked (m.means u).before l b → Looked (m.means u) (attempted a ∷ looked_up b ∷ []) o
 two_looked m right s t u p q a b v first second k l o new f h =
     let x = right.given s p a t v first in
-    let y = right.given t q b u x.Valid second in
+    let y = right.given t q b u x.valid second in
     looked_more (moved (looked_more (looked_none (m.means t) k new) (attempted a) x.known l f) y.advanced) (looked_up b) y.known o h
 
 pub returns : goal.returns

@@ -12,16 +12,16 @@ use Rattle.histories.proofs.Steps.{entered_none, entered_more}
 use Rattle.histories.proofs.example.two_accesses.Goals as goal
 
 -- new, a timestamp, the first access; another timestamp, the second access
-two_entered : (m : Machine) → Right m → (critical : Kind → Bool) (s t u : m.State) (p q : ℕ) (a b : Access) → m.Valid s → m.stamp s p ≡ Ok (a.at, t) → m.stamp t q ≡ Ok (b.at, u)
+two_entered : (m : Machine) → Right m → (critical : Kind → Bool) (s t u : m.State) (p q : ℕ) (a b : Access) → m.valid s → m.stamp s p ≡ Ok (a.at, t) → m.stamp t q ≡ Ok (b.at, u)
     → (k l n o : Kept) (c d : Checked) → k ≡ unused → c ≡ finds critical (m.means t).before k a → l ≡ enter critical (m.means t).before k a → n ≡ l
     → d ≡ finds critical (m.means u).before n b → o ≡ enter critical (m.means u).before n b → Lawful (m.means u) × Entered critical (m.means u) (a ∷ b ∷ []) o (c.checks + d.checks)
 two_entered m right critical s t u p q a b v first second k l n o c d new e f same g h =
     let x = right.given s p a.at t v first in
-    let y = right.given t q b.at u x.Valid second in
+    let y = right.given t q b.at u x.valid second in
     let one : Entered critical (m.means t) (a ∷ []) n (0 + c.checks) =
     subst (λ k. Entered critical (m.means t) (a ∷ []) k (0 + c.checks)) (sym same) (entered_more (entered_none critical (m.means t) k new) a x.known l c e f) in
     let sum : 0 + c.checks + d.checks ≡ c.checks + d.checks = omega arith in
-    (right.lawful u y.Valid, subst (Entered critical (m.means u) (a ∷ b ∷ []) o) sum (entered_more (moved one y.advanced) b y.known o d g h))
+    (right.lawful u y.valid, subst (Entered critical (m.means u) (a ∷ b ∷ []) o) sum (entered_more (moved one y.advanced) b y.known o d g h))
 
 pub returns : goal.returns
 returns g c = record {

@@ -7,6 +7,6 @@ use Rattle.makes.proofs.calls.MakesOrder.number.Goals as goal
 pub returns : goal.returns
 returns c = record {
   answer = refl;
-  Valid = sound_had c.args.self.now.sound;
+  valid = sound_had c.args.self.now.sound;
   run = λ calls since. (number_run calls (make_model c.args.self.now) since, orderly_run calls (make_model c.args.self.now) since);
 }

@@ -21,4 +21,4 @@ returns c =
     let rows = c.in-ok-rows.ensures in
     let is = start_is c.args.room c.capped-room.result c.capped-room.ensures.answer births.items (c.push-reserved.ensures.items ∙ ap (λ ps. ps ++ no_place ∷ _) places.items)
     (c.in-ok-slots.ensures.items-if-clones-equal (λ y e. e)) rows.items in
-    record { start = is; Valid = subst Sound (sym is) (new_sound c.args.room) }
+    record { start = is; valid = subst Sound (sym is) (new_sound c.args.room) }
