@@ -1,5 +1,5 @@
 -- The bits of a row: of none, of two rows joined, and of a row with one bit.
-use Rattle.std.proofs.Common.{◌≡◌, ℕ, zero, suc, ◌+◌, ◌-◌, ◌*◌, ◌/◌, ◌%◌, ◌^◌, ◌<◌, Bool, true, false, ◌||◌, eqb, sym, refl, ap, ◌∙◌, ⊎_elim, mod-lt, pow-suc, arith, pow_pos, pow-add}
+use Rattle.std.proofs.Common.{◌≡◌, ℕ, zero, suc, ◌+◌, ◌-◌, ◌/◌, ◌%◌, ◌^◌, ◌<◌, false, ◌||◌, eqb, sym, refl, ap, ◌∙◌, ⊎_elim, mod-lt, pow-suc, arith, pow_pos, pow-add}
 use native.Mathlib.Nat.{zero-div, div_self, div-eq_of_lt, mul-mod_left}
 use lib.Bits.{bit_or, or_shr, or_mod}
 use lib.Pow.{pow-lt, shl-shr}

@@ -1,5 +1,5 @@
 -- The law of orders: what a machine owes to be an order.
-use Rattle.std.specs.Prelude.{◌≡◌, ℕ, ◌+◌, Bool, true, false, is_ok, Ok, Decides}
+use Rattle.std.specs.Prelude.{◌≡◌, ℕ, ◌+◌, true, false, is_ok, Ok, Decides}
 use Rattle.std.specs.Result.{result_err}
 use Rattle.order.specs.declared.Timestamp.{Timestamp}
 use Rattle.order.specs.Events.{Told}
