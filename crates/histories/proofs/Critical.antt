@@ -1,17 +1,17 @@
 -- Why the checks of a history are enough: the critical-access argument.
-use Rattle.std.proofs.Common.{◌≡◌, ℕ, ◌+◌, ◌*◌, ◌<◌, ◌≤◌, Bool, true, false, cond, not, ◌||◌, eqb, ◌⊎◌, List, [], ◌∷◌, ◌++◌, reverse, length, get_or, is_some, Some, None, Decides, Option, sym, refl, ap, ◌∙◌, subst, subst₂, inl, inr, ⊎_elim, arith, MatchOption}
+use Rattle.std.proofs.Common.{◌≡◌, ℕ, ◌+◌, ◌*◌, ◌<◌, ◌≤◌, Bool, true, false, cond, eqb, ◌⊎◌, List, [], ◌∷◌, ◌++◌, reverse, length, get_or, Some, None, Option, sym, refl, ap, ◌∙◌, subst, subst₂, inl, inr, ⊎_elim, arith}
 use Rattle.std.proofs.ByRecursion.{all-has, All-weaker, all_has_itself, has_append_left, has_push, has_push_cases}
 use Rattle.std.proofs.lemmas.List.{length_push, length-reverse, get_or_push, get_or_append_left}
 use Rattle.std.proofs.lemmas.Bool.{false≢true, cond_both, or_cases, or_left, or_right}
 use Rattle.std.specs.List.{ContainsAt as Has, AllByRecursion as All}
 use Rattle.std.specs.Option.{option_to_list}
 use Rattle.order.specs.declared.Timestamp.{Timestamp}
-use Rattle.order.specs.Meaning.{Meaning, Lawful, Advanced}
+use Rattle.order.specs.Meaning.{Meaning, Lawful}
 use Rattle.histories.specs.declared.accesses.Access.{Access}
 use Rattle.histories.specs.declared.accesses.Kind.{Kind}
 use Rattle.histories.specs.declared.accesses.Kind.TheVariants.{Read}
 use Rattle.histories.specs.declared.accesses.Race.{Race}
-use Rattle.histories.specs.Histories.{Kept, unused, asked, first_failing, first_race, found, after, finds, enter}
+use Rattle.histories.specs.Histories.{Kept, asked, first_failing, first_race, found, after}
 use Rattle.histories.specs.Judged.{Entered, none, moved, more, conflict, InOrder, RaceOf, Judged}
 use Rattle.histories.proofs.Asked.{has_none, has_some, some_has, all_passed, one_failed, asks_since, asks_last, asks_only}
 use Rattle.histories.proofs.First.{Steady, steady_self, steady_on, first_none, first_some, decides_failed, cases_failed}

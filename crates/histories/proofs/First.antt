@@ -1,5 +1,5 @@
 -- What the law of a run rests on: an order that moves on, and a first failing pair that stays.
-use Rattle.std.proofs.Common.{◌≡◌, ℕ, Bool, true, false, not, is_some, IfSome, Some, None, Decides, Option, refl, ◌∙◌, subst, arith}
+use Rattle.std.proofs.Common.{◌≡◌, ℕ, true, not, is_some, IfSome, Some, None, Decides, Option, refl, ◌∙◌, subst, arith}
 use Rattle.std.proofs.lemmas.Bool.{false≢true}
 use Rattle.order.specs.declared.Timestamp.{Timestamp}
 use Rattle.order.specs.Meaning.{Meaning, Advanced}

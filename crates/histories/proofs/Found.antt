@@ -1,15 +1,15 @@
 -- Why a directory's failing pair tells of all lookups.
-use Rattle.std.proofs.Common.{◌≡◌, ℕ, ◌<◌, ◌≤◌, Bool, true, false, cond, ◌||◌, ◌⊎◌, List, [], ◌∷◌, ◌++◌, reverse, length, get_or, Some, None, Option, sym, refl, ap, ◌∙◌, subst, inl, inr, ⊎_elim, arith}
+use Rattle.std.proofs.Common.{◌≡◌, ℕ, ◌<◌, ◌≤◌, Bool, true, false, cond, ◌||◌, List, [], ◌∷◌, ◌++◌, reverse, length, get_or, Some, None, sym, refl, ap, ◌∙◌, subst, inl, inr, ⊎_elim, arith}
 use Rattle.std.proofs.ByRecursion.{all-has, All-weaker, all_has_itself, has_append_left, has_push, has_push_cases}
 use Rattle.std.proofs.lemmas.List.{length_push}
 use Rattle.std.proofs.lemmas.Bool.{false≢true, cases_lt, cases_Bool, cond-true, cond-false, or_cases, or_parts}
 use Rattle.std.specs.List.{ContainsAt as Has, AllByRecursion as All}
 use Rattle.order.specs.declared.Timestamp.{Timestamp}
-use Rattle.order.specs.Meaning.{Meaning, Lawful, Advanced}
+use Rattle.order.specs.Meaning.{Meaning}
 use Rattle.histories.specs.declared.accesses.Race.{Race}
 use Rattle.histories.specs.Found.{Known, Looked, none, moved, more, Remains, LooksRight, AllRight, FailedLookup, Found}
 use Rattle.histories.specs.Histories.{first_race}
-use Rattle.histories.specs.Lookups.{Use, looked_up, attempted, removed, KeptAttempts, untried, any_before, first, newest, failed_lookup, looked, used}
+use Rattle.histories.specs.Lookups.{Use, looked_up, attempted, removed, KeptAttempts, any_before, first, newest, failed_lookup, used}
 use Rattle.histories.proofs.Asked.{has_none, has_head, has_tail}
 use Rattle.histories.proofs.First.{Steady, steady_self, steady_on, first_none, first_some, decides_failed, cases_failed}
 use Rattle.histories.proofs.Pairs.{has_turned, has_reverse}

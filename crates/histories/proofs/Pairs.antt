@@ -1,5 +1,5 @@
 -- Lists that grow at their end: what is in them, and their elements two by two.
-use Rattle.std.proofs.Common.{◌≡◌, ℕ, ◌-◌, ◌<◌, ◌≤◌, ◌⊎◌, List, [], ◌∷◌, ◌++◌, reverse, length, get_or, sym, ◌∙◌, subst, subst₂, ⊎_elim, arith}
+use Rattle.std.proofs.Common.{◌≡◌, ℕ, ◌-◌, ◌<◌, ◌≤◌, List, [], ◌∷◌, ◌++◌, reverse, length, get_or, sym, ◌∙◌, subst, subst₂, ⊎_elim, arith}
 use Rattle.std.proofs.ByRecursion.{has_get_or}
 use Rattle.std.proofs.lemmas.List.{length_push, length-reverse, get_or_push, get_or_append_left, get_or-reverse, reverse-reverse}
 use Rattle.std.proofs.lemmas.Bool.{cases_lt}

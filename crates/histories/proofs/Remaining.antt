@@ -4,7 +4,7 @@ use Rattle.std.proofs.lemmas.List.{length_push, get_or_push, get_or_append_left}
 use Rattle.std.proofs.lemmas.Bool.{cases_lt}
 use Rattle.order.specs.declared.Timestamp.{Timestamp}
 use Rattle.histories.specs.Found.{Remains}
-use Rattle.histories.specs.Lookups.{Use, looked_up, attempted, removed}
+use Rattle.histories.specs.Lookups.{Use, attempted, removed}
 
 module _ (us : List Use) (u : Use) where
   at_old : (n : ℕ) (d : Use) → n < length us → get_or (us ++ u ∷ []) n d ≡ get_or us n d

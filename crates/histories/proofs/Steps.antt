@@ -1,5 +1,5 @@
 -- Runs, step by step, as contracts tell them.
-use Rattle.std.proofs.Common.{◌≡◌, ℕ, ◌+◌, Bool, true, List, [], ◌∷◌, ◌++◌, sym, refl, ap, ◌∙◌, subst, subst₂}
+use Rattle.std.proofs.Common.{◌≡◌, ℕ, ◌+◌, Bool, true, List, [], ◌∷◌, ◌++◌, sym, subst, subst₂}
 use Rattle.order.specs.Meaning.{Meaning}
 use Rattle.histories.specs.declared.accesses.Access.{Access}
 use Rattle.histories.specs.declared.accesses.Checked.{Checked}

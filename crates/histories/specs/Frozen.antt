@@ -1,5 +1,5 @@
 -- The order of this crate's tests: at rest, with nobody alive.
-use Rattle.std.specs.Prelude.{ℕ, Bool, false, ◌&&◌, Err, nat_le, nat_lt}
+use Rattle.std.specs.Prelude.{Bool, false, ◌&&◌, Err, nat_le, nat_lt}
 use Rattle.faults.specs.declared.OrderFault.TheVariants.{NotLive, Unfit}
 use Rattle.order.specs.declared.Timestamp.{Timestamp}
 use Rattle.order.specs.Machine.{Machine}

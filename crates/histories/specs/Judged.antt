@@ -1,5 +1,5 @@
 -- What a history is worth: the law over all accesses that were ever entered.
-use Rattle.std.specs.Prelude.{◌≡◌, ℕ, ◌+◌, ◌*◌, ◌<◌, ◌≤◌, Bool, true, false, not, ◌||◌, List, [], ◌∷◌, ◌++◌, length, get_or, is_some, IfSome, Decides, Option, slice_index_or}
+use Rattle.std.specs.Prelude.{◌≡◌, ℕ, ◌+◌, ◌*◌, ◌<◌, ◌≤◌, Bool, true, false, not, ◌||◌, List, [], ◌∷◌, ◌++◌, length, is_some, IfSome, Decides, Option, slice_index_or}
 use Rattle.order.specs.declared.Timestamp.{Timestamp}
 use Rattle.order.specs.Meaning.{Meaning, Advanced}
 use Rattle.histories.specs.declared.accesses.Access.{Access}
@@ -22,7 +22,7 @@ conflict critical a b = critical a.kind || critical b.kind
 -- Of every two conflicting accesses, at places i and j of the list, the earlier is before the later.
 abbrev pub InOrder : (Kind → Bool) → (Timestamp → Timestamp → Bool) → List Access → Type 0
 InOrder critical before es = (i j : ℕ) (d : Access) → i < j → j < length es
-    → conflict critical (slice_index_or es i d) (slice_index_or es j d) ≡ true → before (get_or es i d).at (get_or es j d).at ≡ true
+    → conflict critical (slice_index_or es i d) (slice_index_or es j d) ≡ true → before (slice_index_or es i d).at (slice_index_or es j d).at ≡ true
 
 -- A race among the accesses: two that conflict, of which the earlier is not before the later.
 pub record RaceOf (critical : Kind → Bool) (before : Timestamp → Timestamp → Bool) (es : List Access) (r : Race) : Type 0 where
@@ -30,8 +30,8 @@ pub record RaceOf (critical : Kind → Bool) (before : Timestamp → Timestamp �
   pub j : ℕ
   pub rising : i < j
   pub within : j < length es
-  pub earlier : (d : Access) → (get_or es i d).at ≡ r.earlier
-  pub later : (d : Access) → (get_or es j d).at ≡ r.later
+  pub earlier : (d : Access) → (slice_index_or es i d).at ≡ r.earlier
+  pub later : (d : Access) → (slice_index_or es j d).at ≡ r.later
   pub conflicting : (d : Access) → conflict critical (slice_index_or es i d) (slice_index_or es j d) ≡ true
   pub unordered : before r.earlier r.later ≡ false
 

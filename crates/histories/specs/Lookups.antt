@@ -1,5 +1,5 @@
 -- A directory's creation attempts and the lookups in it: the exact account, which can be run.
-use Rattle.std.specs.Prelude.{ℕ, Bool, false, cond, ◌||◌, List, [], ◌∷◌, ◌++◌, reverse, Some, None, Option}
+use Rattle.std.specs.Prelude.{Bool, false, cond, ◌||◌, List, [], ◌∷◌, ◌++◌, reverse, Some, None, Option}
 use Rattle.order.specs.declared.Timestamp.{Timestamp}
 use Rattle.histories.specs.declared.accesses.Race.{Race}
 use Rattle.histories.specs.Histories.{first_race}

@@ -53,8 +53,8 @@ impl Directory {
 
     // Looks the directory up. If the lookup fails, it answers the attempt that it fails by.
     pub fn look_up<O: Order>(&mut self, order: &O, at: Timestamp) -> Option<Timestamp>
-        ensures value { result ≡ failed_lookup (machine.means (model order.now)).before (kept_attempts self.old).remaining at }
-        ensures after { kept_attempts self.new ≡ looked (machine.means (model order.now)).before (kept_attempts self.old) at }
+        ensures value { result ≡ failed_lookup (O.machine.means (O.model order.now)).before (kept_attempts self.old).remaining at }
+        ensures after { kept_attempts self.new ≡ looked (O.machine.means (O.model order.now)).before (kept_attempts self.old) at }
     {
         let shown = failed_lookup(order, &self.attempts, at);
         self.failed = first_race(self.failed, shown, at);

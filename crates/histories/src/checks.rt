@@ -28,7 +28,7 @@ impl Checked {
 // One check more: the order is asked whether the earlier access is before the new one. What failed first stays.
 fn check<O: Order>(order: &O, found: Checked, earlier: Timestamp, new: Timestamp) -> Checked
     requires few { found.checks < 2 ^ 64 - 1 }
-    ensures answer { result ≡ check_more (machine.means (model order.now)).before found earlier new }
+    ensures answer { result ≡ check_more (O.machine.means (O.model order.now)).before found earlier new }
 {
     let failed = if order.before(earlier, new) {
         None
@@ -51,7 +51,7 @@ fn split_newest(accesses: &[Timestamp]) -> Option<(&Timestamp, &[Timestamp])>
 
 // The checks against each of these, the newest first. All are asked, also after one has failed.
 fn check_each<O: Order>(order: &O, earlier: &[Timestamp], new: Timestamp) -> Checked
-    ensures answer { result ≡ checked (machine.means (model order.now)).before (reverse earlier.now) new }
+    ensures answer { result ≡ checked (O.machine.means (O.model order.now)).before (reverse earlier.now) new }
 {
     let mut found = NOTHING;
     let mut rest = earlier;
@@ -64,7 +64,7 @@ fn check_each<O: Order>(order: &O, earlier: &[Timestamp], new: Timestamp) -> Che
 
 // The check against the last critical access, if there is one.
 pub fn check_last<O: Order>(order: &O, last: Option<Timestamp>, new: Timestamp) -> Checked
-    ensures answer { result ≡ checked (machine.means (model order.now)).before (option_to_list last) new }
+    ensures answer { result ≡ checked (O.machine.means (O.model order.now)).before (option_to_list last) new }
 {
     match last {
         Some(earlier) => check(order, NOTHING, earlier, new),
@@ -79,7 +79,7 @@ pub fn check_critical<O: Order>(
     since: &[Timestamp],
     new: Timestamp,
 ) -> Checked
-    ensures answer { result ≡ checked (machine.means (model order.now)).before (if nat_eq (length since.now) 0 then option_to_list last else reverse since.now) new }
+    ensures answer { result ≡ checked (O.machine.means (O.model order.now)).before (if nat_eq (length since.now) 0 then option_to_list last else reverse since.now) new }
 {
     if since.is_empty() {
         check_last(order, last, new)
@@ -101,7 +101,7 @@ pub fn first_race(race: Option<Race>, failed: Option<Timestamp>, later: Timestam
 
 // Whether one of these is before the new one.
 fn any_before<O: Order>(order: &O, earlier: &[Timestamp], new: Timestamp) -> bool
-    ensures answer { result ≡ any_before (machine.means (model order.now)).before earlier.now new }
+    ensures answer { result ≡ any_before (O.machine.means (O.model order.now)).before earlier.now new }
 {
     for at in earlier {
         if order.before(*at, new) {
@@ -127,7 +127,7 @@ pub fn failed_lookup<O: Order>(
     attempts: &[Timestamp],
     lookup: Timestamp,
 ) -> Option<Timestamp>
-    ensures answer { result ≡ failed_lookup (machine.means (model order.now)).before attempts.now lookup }
+    ensures answer { result ≡ failed_lookup (O.machine.means (O.model order.now)).before attempts.now lookup }
 {
     if any_before(order, attempts, lookup) {
         return None;

@@ -30,7 +30,7 @@ pub fn two_accesses<O: Order, R: ConflictRule>(
     first: (Kind, u32),
     second: (Kind, u32),
 ) -> Result<Seen, EntryFault>
-    ensures law { machine.valid (model order.old) → IfOk result (λ s. Judged (critical rule.now) (machine.means (model order.new)).before (record { kind = first.0; at = s.first } ∷ record { kind = second.0; at = s.second } ∷ []) s.race s.checks) }
+    ensures law { O.machine.valid (O.model order.old) → IfOk result (λ s. Judged (R.critical rule.now) (O.machine.means (O.model order.new)).before (record { kind = first.0; at = s.first } ∷ record { kind = second.0; at = s.second } ∷ []) s.race s.checks) }
 {
     let mut history = History::new(heap);
     let one = order.stamp(first.1)?;
@@ -69,7 +69,7 @@ pub fn made_and_looked_up<O: Order>(
     maker: u32,
     reader: u32,
 ) -> Result<Seen, EntryFault>
-    ensures law { machine.valid (model order.old) → IfOk result (λ s. Found (machine.means (model order.new)).before (attempted s.first ∷ looked_up s.second ∷ []) s.race) }
+    ensures law { O.machine.valid (O.model order.old) → IfOk result (λ s. Found (O.machine.means (O.model order.new)).before (attempted s.first ∷ looked_up s.second ∷ []) s.race) }
 {
     let mut directory = Directory::new(heap);
     let one = order.stamp(maker)?;

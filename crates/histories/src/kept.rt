@@ -46,8 +46,8 @@ impl History {
     // Enters an access that is not critical.
     fn enter_noncritical<O: Order>(&mut self, order: &O, at: Timestamp) -> Checked
         requires room { HasRoom self.old }
-        ensures value { result ≡ found (machine.means (model order.now)).before false (kept self.old) at }
-        ensures after { kept self.new ≡ after (machine.means (model order.now)).before false (kept self.old) at }
+        ensures value { result ≡ found (O.machine.means (O.model order.now)).before false (kept self.old) at }
+        ensures after { kept self.new ≡ after (O.machine.means (O.model order.now)).before false (kept self.old) at }
     {
         let found = check_last(order, self.critical, at);
         self.failed = first_race(self.failed, found.failed, at);
@@ -57,8 +57,8 @@ impl History {
 
     // Enters a critical access.
     fn enter_critical<O: Order>(&mut self, order: &O, at: Timestamp) -> Checked
-        ensures value { result ≡ found (machine.means (model order.now)).before true (kept self.old) at }
-        ensures after { kept self.new ≡ after (machine.means (model order.now)).before true (kept self.old) at }
+        ensures value { result ≡ found (O.machine.means (O.model order.now)).before true (kept self.old) at }
+        ensures after { kept self.new ≡ after (O.machine.means (O.model order.now)).before true (kept self.old) at }
     {
         let found = check_critical(order, self.critical, &self.since, at);
         self.failed = first_race(self.failed, found.failed, at);
@@ -75,8 +75,8 @@ impl History {
         access: Access,
     ) -> Checked
         requires room { HasRoom self.old }
-        ensures value { result ≡ finds (critical rule.now) (machine.means (model order.now)).before (kept self.old) access }
-        ensures after { kept self.new ≡ enter (critical rule.now) (machine.means (model order.now)).before (kept self.old) access }
+        ensures value { result ≡ finds (R.critical rule.now) (O.machine.means (O.model order.now)).before (kept self.old) access }
+        ensures after { kept self.new ≡ enter (R.critical rule.now) (O.machine.means (O.model order.now)).before (kept self.old) access }
     {
         if rule.is_critical(access.kind) {
             self.enter_critical(order, access.at)

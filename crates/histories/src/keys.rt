@@ -1,5 +1,5 @@
 // Keys, and the search for the row of a key.
-ghost use Rattle.std.specs.Prelude.{◌≡◌, true, false, map};
+ghost use Rattle.std.specs.Prelude.{◌≡◌, Bool, Decides, map};
 ghost use Rattle.std.specs.Str.{bytes_eq};
 ghost use Rattle.paths.specs.Bytes.{held_bytes, path_bytes};
 ghost use Rattle.histories.specs.Keys.{Finds, position, same_pair};
@@ -32,12 +32,38 @@ pub struct Row<K, V> {
     pub value: V,
 }
 
+// Keys that can be compared with keys of a type Q, which may be another type than their own. `equal` says what each answer means.
+pub trait EqualTo<Q> {
+    ghost equal: { Self → Q → Bool → Type 0 };
+
+    fn equal_to(&self, other: &Q) -> bool
+        ensures { equal self.now other.now result };
+}
+
+// Where a type has `==`, that compares two keys of it.
+impl<K: PartialEq> EqualTo<K> for K {
+    ghost equal = { λ a b r. r ≡ K.eq a b };
+
+    fn equal_to(&self, other: &K) -> bool {
+        *self == *other
+    }
+}
+
+// A held path equals a borrowed one exactly if their bytes are the same.
+impl<'a> EqualTo<Path<'a>> for HeldPath {
+    ghost equal = { λ h p r. Decides r (held_bytes h ≡ path_bytes p) };
+
+    fn equal_to(&self, other: &Path<'a>) -> bool {
+        self.equals(other)
+    }
+}
+
 // The first row whose key equals this one, by its place. There is one exactly if some row's key does.
-pub fn find<K: PartialEq<Q>, Q, V>(rows: &[Row<K, V>], key: &Q) -> Option<usize>
-    ensures { Finds (λ row. (λ r'. r' ≡ K.PartialEq.eq row.key key.now)) rows.now result }
+pub fn find<K: EqualTo<Q>, Q, V>(rows: &[Row<K, V>], key: &Q) -> Option<usize>
+    ensures { Finds (λ row. K.equal row.key key.now) rows.now result }
 {
     for (i, row) in rows.iter().enumerate() {
-        if row.key == *key {
+        if row.key.equal_to(key) {
             return Some(i);
         }
     }

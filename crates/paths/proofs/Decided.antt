@@ -1,5 +1,5 @@
 -- The tests of the form decide its facts.
-use Rattle.std.proofs.Common.{◌≡◌, ℕ, zero, suc, ◌+◌, ◌<◌, ◌≤◌, Bool, true, false, eqb, List, [], ◌∷◌, length, get_or, Decides, sym, refl, ◌∙◌, add-one, arith}
+use Rattle.std.proofs.Common.{◌≡◌, ℕ, zero, suc, ◌<◌, ◌≤◌, Bool, true, false, eqb, List, [], ◌∷◌, length, get_or, Decides, sym, refl, ◌∙◌, add-one, arith}
 use Rattle.std.specs.List.{IsAnyAnswer, ContainsAt as Has}
 use Rattle.std.proofs.lemmas.List.Elements.{contains_decides}
 use Rattle.std.proofs.lemmas.List.{get_or_default}
@@ -11,7 +11,7 @@ has_decides : (x : ℕ) (bs : List ℕ) → Decides (has x bs) (Has bs x)
 has_decides x = Decides-by_or (λ b. eqb b x) (λ b. b ≡ x) (has x) (λ b. Decides-eqb b x) refl (λ _ _. refl)
 
 -- what `contains` answers
-pub contains_is : (x : ℕ) (bs : List ℕ) (r : Bool) → IsAnyAnswer (λ b t. Decides t (b ≡ x)) bs r → r ≡ has x bs
+pub contains_is : (x : ℕ) (bs : List ℕ) (r : Bool) → IsAnyAnswer (λ b t. eqb b x ≡ t) bs r → r ≡ has x bs
 contains_is x bs r h = same_from_decides r (has x bs) (contains_decides eqb Decides-eqb bs x r h) (has_decides x bs)
 
 -- whether a byte stands somewhere, by index

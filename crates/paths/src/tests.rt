@@ -41,9 +41,9 @@ fn parents(rt: HostRuntime) -> Result<(), Fail> {
 #[test]
 fn holds(rt: HostRuntime) -> Result<(), Fail> {
     let held = HeldPath::hold(rt.alloc(), Path::new(b"/a/b"))?;
-    assert!(rt; held.as_bytes() == b"/a/b");
-    assert!(rt; held == Path::new(b"/a/b"));
-    assert!(rt; !(held == Path::new(b"/a/c")));
-    assert!(rt; !(held == Path::new(b"/a")));
+    assert!(rt; held.as_bytes() == b"/a/b".as_slice());
+    assert!(rt; held.equals(&Path::new(b"/a/b")));
+    assert!(rt; !held.equals(&Path::new(b"/a/c")));
+    assert!(rt; !held.equals(&Path::new(b"/a")));
     Ok(())
 }

@@ -1,8 +1,6 @@
 ghost use Rattle.std.specs.Prelude.{◌≡◌, true, IfOk, Decides};
 ghost use Rattle.paths.specs.Bytes.{held_bytes, path_bytes};
 ghost use Rattle.paths.specs.Forms.{wellformed};
-ghost use Rattle.std.specs.Cmp.Rules.{comparing};
-ghost use Rattle.std.proofs.Common.{rules, arith};
 
 use crate::borrowed::Path;
 use crate::held::HeldPath;
@@ -38,15 +36,11 @@ impl HeldPath {
     {
         Path::new(self.as_bytes())
     }
-}
 
-// A held path equals a borrowed one exactly if their bytes are the same.
-impl<'a> PartialEq<Path<'a>> for HeldPath {
-    ghost equals = { λ h p r. Decides r (held_bytes h ≡ path_bytes p) };
-
-    ghost laws = { first_of (Prim.search (comparing, rules), Prim.grind (arith, Self.row.coded.inj)) };
-
-    fn eq(&self, other: &Path<'a>) -> bool {
+    // Whether the held path and the borrowed one are the same: exactly if their bytes are.
+    pub fn equals(&self, other: &Path<'_>) -> bool
+        ensures { Decides result (held_bytes self.now ≡ path_bytes other.now) }
+    {
         same_bytes(self.as_bytes(), other.as_bytes())
     }
 }

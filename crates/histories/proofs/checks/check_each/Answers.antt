@@ -11,4 +11,4 @@ loop-newest-preserved g c =
     c.in-Some.ensures.parts c.check-found.ensures.answer c.loop-newest.invariant
 
 pub returns : goal.returns
-returns g c = record { answer = turns_end _ c.args.new c.loop-newest.found c.loop-newest.rest.now c.in-default.ensures.parts ∙ c.loop-newest.invariant.0 }
+returns g c = record { answer = turns_end _ c.args.new c.loop-newest.found c.loop-newest.rest.now c.in_default.ensures.parts ∙ c.loop-newest.invariant.0 }

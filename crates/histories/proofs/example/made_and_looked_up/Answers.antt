@@ -19,6 +19,6 @@ pub returns : goal.returns
 returns g c = record {
   law = λ v.
       c.race-race.ensures.law (g.O.Order.machine.means (g.O.Order.model c.stamp-2.new.self)) _
-      (two_looked g.O.Order.machine g.met.O.Order.right _ _ _ _ _ _ _ v c.in-ok-one.ensures.answer c.in-ok-two.ensures.answer _ _ _
-      (c.reserve.ensures.same ∙ c.new-directory.ensures.value) c.attempt.ensures.after c.look-up.ensures.after);
+      (two_looked g.O.Order.machine g.met.O.Order.right _ _ _ _ _ _ _ v c.in_ok-one.ensures.answer c.in_ok-two.ensures.answer _ _ _
+      (c.reserve.ensures.same ∙ c.new-directory.ensures.value) c.attempt.ensures.after c.look_up.ensures.after);
 }

@@ -30,8 +30,8 @@ returns g c = record {
       let run =
       two_entered g.O.Order.machine g.met.O.Order.right critical
       (g.O.Order.model c.args.order.now) (g.O.Order.model c.stamp.new.self) (g.O.Order.model c.stamp-2.new.self) c.args.first.1 c.args.second.1
-      (record { kind = c.args.first.0; at = c.in-ok-one.one }) (record { kind = c.args.second.0; at = c.in-ok-two.two }) v
-      c.in-ok-one.ensures.answer c.in-ok-two.ensures.answer
+      (record { kind = c.args.first.0; at = c.in_ok-one.one }) (record { kind = c.args.second.0; at = c.in_ok-two.two }) v
+      c.in_ok-one.ensures.answer c.in_ok-two.ensures.answer
       (kept c.reserve.new.self) (kept c.enter-found.new.self) (kept c.reserve-2.new.self) (kept c.enter-more.new.self) c.enter-found.result c.enter-more.result
       (c.reserve.ensures.same ∙ c.new-history.ensures.value) c.enter-found.ensures.value c.enter-found.ensures.after c.reserve-2.ensures.same
       c.enter-more.ensures.value c.enter-more.ensures.after in

@@ -13,7 +13,7 @@ returns-then-self-lt2 c =
 pub returns : goal.returns
 returns c =
     let bs = c.args.self.bytes.now in
-    let n = c.parent-len-end.result - 0 in
+    let n = c.parent_len-end.result - 0 in
     let p = parted bs n c.args.self.ok c.if-self-lt2.false (omega arith) in
     let v = sym (only_parent bs (take n bs) p.0 p.1) in
     record { value = v; form = p.0; law = p.1; only = λ up w l. v ∙ only_parent bs up w l }
