@@ -7,9 +7,9 @@ use Rattle.faults.specs.declared.OrderFault.{OrderFault}
 use Rattle.order.proofs.Runs.{ran_lives}
 use Rattle.order.specs.declared.Timestamp.{Timestamp}
 use Rattle.order.specs.Machine.{Stamps}
-use Rattle.order.specs.Runs.{Call, told, given, Alive}
+use Rattle.order.specs.Runs.{Call, Alive}
 use Rattle.makes.specs.declared.climb.Meeting.{Meeting}
-use Rattle.makes.specs.Machine.{Build, start, found, lives_in, counted, stamp_make_order, known_in, before_in, judged, side_start, side_end}
+use Rattle.makes.specs.Machine.{Build, start, found, lives_in, stamp_make_order, known_in, before_in, judged, side_start, side_end}
 use Rattle.makes.specs.Order.{make_machine}
 use Rattle.makes.specs.Places.{Sort, session, make as a-make, target as a-target, step, make_sort, stand_sort, is_make, is_stand, kind_at, shape, shapes, shape_at, parents}
 use Rattle.makes.specs.Rows.{needs}

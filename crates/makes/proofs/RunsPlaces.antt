@@ -6,7 +6,7 @@ use Rattle.order.specs.Runs.{Call}
 use Rattle.makes.specs.declared.places.Kind.TheVariants.{Make, Target, Step}
 use Rattle.makes.specs.declared.places.Status.TheVariants.{Unstarted}
 use Rattle.makes.specs.declared.places.Place.{Place}
-use Rattle.makes.specs.Machine.{Build, lives_in, born_at, with_step, turned_make, declared, died, counted, target_at}
+use Rattle.makes.specs.Machine.{Build, lives_in, born_at, with_step, turned_make, declared, died, target_at}
 use Rattle.makes.specs.Places.{Sort, session, make as a-make, target as a-target, step, make_sort, stand_sort, is_make, targets_of, kind_begun, kind_declared, with_kind, one_less, no_place, place_at, kind_at, Shape, shape, shapes, shape_at, parents_of, parents, counts, stand, birth_at}
 use Rattle.makes.specs.Runs.{sorts_in, sort_in, next_place, place_in, make_in, targets_in, target_in, parents_in}
 use Rattle.makes.specs.Sound.{Sound}

@@ -1,16 +1,16 @@
 -- The shapes of places: what keeps them, and the tree with one place more.
-use Rattle.std.specs.Prelude.{◌≡◌, ℕ, zero, suc, ◌+◌, ◌-◌, ◌*◌, ◌<◌, ◌≤◌, Bool, true, false, cond, ◌⊎◌, List, [], ◌∷◌, ◌++◌, map, length, sum_by, count_by, ◌==◌, ◌≢◌, slice_index, slice_set, refl}
-use Rattle.std.proofs.Common.{inl, inr, ⊎_elim, sym, ap, subst, ◌∙◌, arith}
+use Rattle.std.specs.Prelude.{◌≡◌, ℕ, zero, suc, ◌+◌, ◌-◌, ◌*◌, ◌<◌, ◌≤◌, Bool, true, false, cond, List, [], ◌∷◌, ◌++◌, map, length, count_by, ◌==◌, ◌≢◌, slice_index, slice_set, refl}
+use Rattle.std.proofs.Common.{⊎_elim, sym, ap, subst, ◌∙◌, arith}
 use Rattle.std.proofs.ByRecursion.{All-weaker}
 use Rattle.std.proofs.lemmas.List.{length-set, length-map, length_push, map_push, get_or_append_left, get_or_push, get_or_past}
 use Rattle.std.proofs.lemmas.List.Sums.{sum_by-cons}
 use Rattle.std.proofs.lemmas.Bool.{cases_eq, eqb-false, cases_order, false≢true}
 use Rattle.std.specs.List.{AllByRecursion as All}
 use Rattle.makes.specs.declared.places.Place.{Place}
-use Rattle.makes.specs.Places.{Sort, session, make, target, step, make_sort, target_sort, stand_sort, targets_of, no_place, place_at, kind_at, Shape, shape, shapes, shape_at, parents_of, parents, counts, changed}
+use Rattle.makes.specs.Places.{Sort, session, make, target, step, make_sort, target_sort, stand_sort, targets_of, no_place, place_at, kind_at, Shape, shape, shapes, shape_at, parents_of, counts, changed}
 use Rattle.makes.specs.Sound.{fits_below, levels_left, makes_above, SoundTree}
 use Rattle.makes.specs.Tree.{up, Earlier, line_in, line, levels}
-use Rattle.makes.specs.TreeLemmas.{length_line, line_some, line_more, line_same}
+use Rattle.makes.specs.TreeLemmas.{line_some, line_more, line_same}
 use Rattle.makes.specs.Walks.{map_set_same}
 
 pub shape_is : (ps : List Place) (x : ℕ) → shape_at (shapes ps) x ≡ shape (place_at ps x)
