@@ -4,7 +4,7 @@ use Rattle.std.proofs.Common.{inl, sym, ap, subst, ◌∙◌, arith}
 use Rattle.std.proofs.lemmas.Nat.{mul-add-lt}
 use Rattle.std.proofs.lemmas.List.{length-map, length_push, length-set, map_push, map-set, get_or_append_left, set-append_left}
 use Rattle.std.proofs.lemmas.Bool.{false≢true, leb-true, and_parts}
-use Rattle.std.specs.List.{AllByRecursion as All}
+use Rattle.std.specs.List.{AllByRecursion}
 use Rattle.order.specs.Meaning.{last_number}
 use Rattle.makes.specs.declared.places.Kind.TheVariants.{Make, Target}
 use Rattle.makes.specs.declared.places.Place.{Place}
@@ -249,7 +249,7 @@ module _ (s : Build) (sound : Sound s) (more : s.number + 1 ≤ last_number) (m 
       let e = row_is s sound (slice_index s.slots (slots_from s m + (k - 1))) in
       omega arith
 
-  rows_below : (js : List ℕ) → all_declared (targets_of (kind_at s.places m)) js ≡ true → All (λ u. u < s.targets) (rows_of s m js)
+  rows_below : (js : List ℕ) → all_declared (targets_of (kind_at s.places m)) js ≡ true → AllByRecursion (λ u. u < s.targets) (rows_of s m js)
   rows_below [] e = tt
   rows_below (j ∷ js) e =
       let p = and_parts (nat_le 1 j && nat_le j (targets_of (kind_at s.places m))) _ e in
