@@ -1,10 +1,10 @@
 -- The flags layer keeps the law of orders, over any machine that does.
-use Rattle.std.specs.Prelude.{◌≡◌, ℕ, zero, suc, ◌+◌, ◌-◌, ◌<◌, ◌≤◌, Bool, true, false, cond, not, ◌||◌, ◌⊎◌, List, [], ◌∷◌, ◌++◌, reverse, length, replicate, is_some, is_ok, IfOk, Some, None, Ok, Err, Option, Result, ◌≢◌, nat_le, slice_index_or, slice_set, refl}
+use Rattle.std.specs.Prelude.{◌≡◌, ℕ, zero, suc, ◌+◌, ◌-◌, ◌<◌, Bool, true, false, cond, not, ◌||◌, ◌⊎◌, List, [], ◌∷◌, ◌++◌, reverse, length, replicate, is_some, is_ok, IfOk, Some, None, Ok, Err, Option, Result, ◌≢◌, nat_le, slice_index_or, slice_set, refl}
 use Rattle.std.proofs.Common.{inl, inr, ⊎_elim, sym, ap, subst, ◌∙◌, arith}
 use Rattle.std.proofs.ByRecursion.{has_append_left, has_push_cases}
 use Rattle.std.proofs.lemmas.Result.{IfOk-at_ok}
 use Rattle.std.specs.Result.{result_err}
-use Rattle.std.specs.List.{ContainsAt as Has, AllByRecursion as All}
+use Rattle.std.specs.List.{AllByRecursion as All}
 use Rattle.faults.specs.declared.OrderFault.{OrderFault}
 use Rattle.faults.specs.declared.OrderFault.TheVariants.{BadFlag, AwaitsFull}
 use Rattle.order.proofs.Absent.{none≢some}
@@ -14,7 +14,7 @@ use Rattle.order.proofs.Stamps.{stamp_ended}
 use Rattle.order.specs.declared.Timestamp.{Timestamp}
 use Rattle.order.specs.Events.{Told, birth, make, target, death, post, await}
 use Rattle.order.specs.Machine.{Machine}
-use Rattle.order.specs.Meaning.{Meaning, Lawful, Advanced, last_number, stamp_fault}
+use Rattle.order.specs.Meaning.{Advanced, last_number}
 use Rattle.order.specs.Right.{Right, EventTaken, StampGiven}
 use Rattle.flags.specs.declared.pair.Pair.{Pair}
 use Rattle.flags.specs.Chains.{row}
