@@ -4,7 +4,7 @@ use Rattle.std.proofs.Common.{inl, inr, ⊎_elim, sym, ap, subst, ◌∙◌, ari
 use Rattle.std.proofs.ByRecursion.{has_append_left, has_push_cases}
 use Rattle.std.proofs.lemmas.Result.{IfOk-at_ok}
 use Rattle.std.specs.Result.{result_err}
-use Rattle.std.specs.List.{AllByRecursion as All}
+use Rattle.std.specs.List.{AllByRecursion}
 use Rattle.faults.specs.declared.OrderFault.{OrderFault}
 use Rattle.faults.specs.declared.OrderFault.TheVariants.{BadFlag, AwaitsFull}
 use Rattle.order.proofs.Absent.{none≢some}
@@ -80,7 +80,7 @@ module _ (m : Machine) (right : Right m) (s : Flagged m.State) (v : Sound m s) w
       }
 
   -- every await so far is below the next number
-  older : (n : ℕ) → n ≡ (m.means s.below).number + 1 → (ys : List Pair) → SoundPairs (m.means s.below) ys → All (λ z. z.wait.number < n) ys
+  older : (n : ℕ) → n ≡ (m.means s.below).number + 1 → (ys : List Pair) → SoundPairs (m.means s.below) ys → AllByRecursion (λ z. z.wait.number < n) ys
   older n is [] q = tt
   older n is (z ∷ ys) q = (let r = ((right.lawful s.below v.below).ranged z.wait q.0.wait_known).1 in omega arith, older n is ys q.1)
 
