@@ -1,10 +1,10 @@
 -- The flags layer keeps the law of orders, over any machine that does.
-use Rattle.std.specs.Prelude.{◌≡◌, ℕ, zero, suc, ◌+◌, ◌-◌, ◌<◌, ◌≤◌, Bool, true, false, cond, not, ◌||◌, ◌⊎◌, List, [], ◌∷◌, ◌++◌, reverse, length, replicate, is_some, is_ok, IfOk, Some, None, Ok, Err, Option, Result, ◌≢◌, nat_le, slice_index_or, slice_set, refl}
+use Rattle.std.specs.Prelude.{◌≡◌, ℕ, zero, suc, ◌+◌, ◌-◌, ◌<◌, Bool, true, false, cond, not, ◌||◌, ◌⊎◌, List, [], ◌∷◌, ◌++◌, reverse, length, replicate, is_some, is_ok, IfOk, Some, None, Ok, Err, Option, Result, ◌≢◌, nat_le, slice_index_or, slice_set, refl}
 use Rattle.std.proofs.Common.{inl, inr, ⊎_elim, sym, ap, subst, ◌∙◌, arith}
 use Rattle.std.proofs.ByRecursion.{has_append_left, has_push_cases}
 use Rattle.std.proofs.lemmas.Result.{IfOk-at_ok}
 use Rattle.std.specs.Result.{result_err}
-use Rattle.std.specs.List.{ContainsAt as Has, AllByRecursion as All}
+use Rattle.std.specs.List.{AllByRecursion}
 use Rattle.faults.specs.declared.OrderFault.{OrderFault}
 use Rattle.faults.specs.declared.OrderFault.TheVariants.{BadFlag, AwaitsFull}
 use Rattle.order.proofs.Absent.{none≢some}
@@ -14,7 +14,7 @@ use Rattle.order.proofs.Stamps.{stamp_ended}
 use Rattle.order.specs.declared.Timestamp.{Timestamp}
 use Rattle.order.specs.Events.{Told, birth, make, target, death, post, await}
 use Rattle.order.specs.Machine.{Machine}
-use Rattle.order.specs.Meaning.{Meaning, Lawful, Advanced, last_number, stamp_fault}
+use Rattle.order.specs.Meaning.{Advanced, last_number}
 use Rattle.order.specs.Right.{Right, EventTaken, StampGiven}
 use Rattle.flags.specs.declared.pair.Pair.{Pair}
 use Rattle.flags.specs.Chains.{row}
@@ -80,7 +80,7 @@ module _ (m : Machine) (right : Right m) (s : Flagged m.State) (v : Sound m s) w
       }
 
   -- every await so far is below the next number
-  older : (n : ℕ) → n ≡ (m.means s.below).number + 1 → (ys : List Pair) → SoundPairs (m.means s.below) ys → All (λ z. z.wait.number < n) ys
+  older : (n : ℕ) → n ≡ (m.means s.below).number + 1 → (ys : List Pair) → SoundPairs (m.means s.below) ys → AllByRecursion (λ z. z.wait.number < n) ys
   older n is [] q = tt
   older n is (z ∷ ys) q = (let r = ((right.lawful s.below v.below).ranged z.wait q.0.wait_known).1 in omega arith, older n is ys q.1)
 

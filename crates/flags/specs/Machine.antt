@@ -1,6 +1,6 @@
 -- The flags layer as a function from machines to machines.
 use Rattle.std.specs.Prelude.{◌≡◌, ℕ, ◌-◌, ◌<◌, Bool, true, cond, not, ◌&&◌, ◌||◌, List, [], ◌∷◌, ◌++◌, reverse, length, replicate, is_some, Some, None, Ok, Err, Option, Result, nat_le, slice_index_or, slice_set}
-use Rattle.std.specs.List.{AllByRecursion as All}
+use Rattle.std.specs.List.{AllByRecursion}
 use Rattle.faults.specs.declared.OrderFault.{OrderFault}
 use Rattle.faults.specs.declared.OrderFault.TheVariants.{BadFlag, AwaitsFull}
 use Rattle.order.specs.declared.Timestamp.{Timestamp}
@@ -88,7 +88,7 @@ pub record SoundPair (x : Meaning) (y : Pair) (ys : List Pair) : Type 0 where
   pub post_known : x.known y.post ≡ true
   pub wait_known : x.known y.wait ≡ true
   pub rising : y.post.number < y.wait.number
-  pub newest : All (λ z. z.wait.number < y.wait.number) ys
+  pub newest : AllByRecursion (λ z. z.wait.number < y.wait.number) ys
   pub earlier : y.earlier ≡ row x y.post ys
 
 -- each pair, newest first

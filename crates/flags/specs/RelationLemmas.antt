@@ -3,9 +3,9 @@ use Rattle.std.specs.Prelude.{◌≡◌, ℕ, zero, suc, ◌-◌, ◌^◌, ◌<�
 use Rattle.std.proofs.Common.{inl, inr, ⊎_elim, sym, ap, subst, ◌∙◌, arith}
 use Rattle.std.specs.Int.Bits.{bit_or}
 use Rattle.std.proofs.lemmas.List.{get_or-reverse, length-reverse, reverse-reverse}
-use Rattle.std.proofs.lemmas.Bool.{false≢true, eqb-true, eq-eqb, ne_eqb, and_from, and_parts, or_cases, or_left, or_right, cond-true, cond-false}
-use Rattle.std.proofs.lemmas.Bool.Decides.{Decides-eqb, Decides-or, Decides-like, Decides-at}
-use Rattle.std.specs.List.{ContainsAt as Has, AllByRecursion as All}
+use Rattle.std.proofs.lemmas.Bool.{false≢true, eqb-true, eq-eqb, ne_eqb, and_from, and_parts, or_cases, or_left, or_right}
+use Rattle.std.proofs.lemmas.Bool.Decides.{Decides-or, Decides-at}
+use Rattle.std.specs.List.{ContainsAt as Has, AllByRecursion}
 use Rattle.order.proofs.Bits.{bit_none, bit-bit_or, bit_power}
 use Rattle.order.specs.declared.Timestamp.{Timestamp}
 use Rattle.order.specs.Bits.{bit}
@@ -114,7 +114,7 @@ pub leads_number : {x : Meaning} → Lawful x → {a b : Timestamp} → Leads x 
 leads_number lawful (inl e) = let n = ap (λ k. k.number) e in omega arith
 leads_number lawful {a} {b} (inr e) = let n = lawful.upward a b e in omega arith
 
-at_newest : {ys : List Pair} {i n : ℕ} {z : Pair} → At ys i z → All (λ y. y.wait.number < n) ys → z.wait.number < n
+at_newest : {ys : List Pair} {i n : ℕ} {z : Pair} → At ys i z → AllByRecursion (λ y. y.wait.number < n) ys → z.wait.number < n
 at_newest here h = h.0
 at_newest (there at) h = at_newest at h.1
 
@@ -127,7 +127,7 @@ at_kept x here s = (s.0.post_known, s.0.wait_known, s.0.rising)
 at_kept x (there at) s = at_kept x at s.1
 
 -- no chain in older pairs starts at a newer await
-no_chain_down : (x : Meaning) {b : Timestamp} {ys : List Pair} {wanted : ℕ} {a : Timestamp} → Lawful x → SoundPairs x ys → All (λ y. y.wait.number < a.number) ys → Chain x b ys wanted a → ⊥
+no_chain_down : (x : Meaning) {b : Timestamp} {ys : List Pair} {wanted : ℕ} {a : Timestamp} → Lawful x → SoundPairs x ys → AllByRecursion (λ y. y.wait.number < a.number) ys → Chain x b ys wanted a → ⊥
 no_chain_down x lawful s newest (end at h l) = let p = leads_number lawful l in let q = at_newest at newest in let r = (at_kept x at s).2 in omega arith
 no_chain_down x lawful s newest (more at l c) = let p = leads_number lawful l in let q = at_newest at newest in let r = (at_kept x at s).2 in omega arith
 

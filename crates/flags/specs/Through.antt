@@ -1,8 +1,8 @@
 -- The law of the relation: it rises, goes on, stands on known timestamps, and does not change.
-use Rattle.std.specs.Prelude.{◌≡◌, ℕ, ◌+◌, ◌^◌, ◌<◌, ◌≤◌, Bool, true, cond, ◌||◌, ◌⊎◌, List, [], ◌∷◌, reverse, length, bit_or, refl}
+use Rattle.std.specs.Prelude.{◌≡◌, ◌^◌, ◌<◌, true, cond, ◌||◌, ◌⊎◌, List, [], ◌∷◌, reverse, length, bit_or, refl}
 use Rattle.std.proofs.Common.{inl, inr, ⊎_elim, sym, ap, subst, ◌∙◌, arith}
 use Rattle.std.proofs.lemmas.Bool.Decides.{Decides-like, same_from_decides}
-use Rattle.std.specs.List.{ContainsAt as Has, AllByRecursion as All}
+use Rattle.std.specs.List.{ContainsAt as Has}
 use Rattle.order.specs.declared.Timestamp.{Timestamp}
 use Rattle.order.specs.Meaning.{Meaning, Lawful, Advanced}
 use Rattle.flags.specs.declared.pair.Pair.{Pair}

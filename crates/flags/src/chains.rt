@@ -8,7 +8,7 @@ use order::{Order, Timestamp};
 
 // Whether a is b or is before it in the order below.
 pub(crate) fn leads_to<O: Order>(below: &O, a: Timestamp, b: Timestamp) -> bool
-    ensures answer { result ≡ leads (machine.means (model below.now)) a b }
+    ensures answer { result ≡ leads (O.machine.means (O.model below.now)) a b }
 {
     a == b || below.before(a, b)
 }
@@ -16,7 +16,7 @@ pub(crate) fn leads_to<O: Order>(below: &O, a: Timestamp, b: Timestamp) -> bool
 // The pairs whose await is, or is before, this post.
 pub(crate) fn earlier_pairs<O: Order>(below: &O, pairs: &[Pair], post: Timestamp) -> u32
     requires few { length pairs.now ≤ 32 }
-    ensures answer { result ≡ row (machine.means (model below.now)) post (reverse pairs.now) }
+    ensures answer { result ≡ row (O.machine.means (O.model below.now)) post (reverse pairs.now) }
 {
     let mut earlier = 0u32;
     for i in 0..pairs.len() {
@@ -30,7 +30,7 @@ pub(crate) fn earlier_pairs<O: Order>(below: &O, pairs: &[Pair], post: Timestamp
 // Whether a pair leads on to b: it is wanted by a newer one that does, or its own await is, or is before, b.
 fn leads_on<O: Order>(below: &O, wanted: u32, i: usize, pair: Pair, b: Timestamp) -> bool
     requires few { i < 32 }
-    ensures answer { result ≡ (bit wanted i || leads (machine.means (model below.now)) pair.wait b) }
+    ensures answer { result ≡ (bit wanted i || leads (O.machine.means (O.model below.now)) pair.wait b) }
 {
     (wanted >> i) % 2 == 1 || leads_to(below, pair.wait, b)
 }
@@ -39,7 +39,7 @@ fn leads_on<O: Order>(below: &O, wanted: u32, i: usize, pair: Pair, b: Timestamp
 // a newer one; so each pair costs at most two questions to the order below.
 pub(crate) fn leads_through<O: Order>(below: &O, pairs: &[Pair], a: Timestamp, b: Timestamp) -> bool
     requires few { length pairs.now ≤ 32 }
-    ensures answer { result ≡ through (machine.means (model below.now)) a b 0 (reverse pairs.now) }
+    ensures answer { result ≡ through (O.machine.means (O.model below.now)) a b 0 (reverse pairs.now) }
 {
     let mut wanted = 0u32;
     for i in (0..pairs.len()).rev() {

@@ -7,17 +7,17 @@ use Rattle.faults.specs.declared.OrderFault.{OrderFault}
 use Rattle.order.proofs.Runs.{ran_lives}
 use Rattle.order.specs.declared.Timestamp.{Timestamp}
 use Rattle.order.specs.Machine.{Stamps}
-use Rattle.order.specs.Runs.{Call, told, given, Alive}
+use Rattle.order.specs.Runs.{Call, Alive}
 use Rattle.makes.specs.declared.climb.Meeting.{Meeting}
-use Rattle.makes.specs.Machine.{Build, start, found, lives_in, counted, stamp_make_order, known_in, before_in, judged, side_start, side_end}
+use Rattle.makes.specs.Machine.{Build, start, found, lives_in, stamp_make_order, known_in, before_in, judged, side_start, side_end}
 use Rattle.makes.specs.Order.{make_machine}
-use Rattle.makes.specs.Places.{Sort, session, make as a-make, target as a-target, step, make_sort, stand_sort, is_make, is_stand, kind_at, shape, shapes, shape_at, parents}
+use Rattle.makes.specs.Places.{Sort, session, make as a_make, target as a_target, step, make_sort, stand_sort, is_make, is_stand, kind_at, shape, shapes, shape_at, parents}
 use Rattle.makes.specs.Rows.{needs}
 use Rattle.makes.specs.Runs.{SinceStart, sorts_in, sort_in, place_in, Known, SideStarts, SideEnds, SidesApart, Rule, Before, Orderly}
 use Rattle.makes.specs.Sound.{fits_below, lasting}
 use Rattle.makes.specs.Tree.{Meets, climb}
 use Rattle.makes.specs.Found.{found_tells}
-use Rattle.makes.specs.Judging.{sort_is, row_is, ends_parts, ends_from as ends-before-from, below_make, side_target}
+use Rattle.makes.specs.Judging.{sort_is, row_is, ends_parts, ends_from as ends_before_from, below_make, side_target}
 use Rattle.makes.specs.Law.{make_right}
 use Rattle.makes.specs.Lawful.{KnownParts, known_parts, known_from, before_parts, before_from}
 use Rattle.makes.proofs.RunsPlaces.{sort_told, size, found_stands}
@@ -35,14 +35,14 @@ session_no_step e = let z : ◌≡◌ {A = ℕ} 0 1 = cc in omega arith
 -- below what is no make stands what starts and ends
 below_lasts : (child above : Sort) → fits_below child above ≡ true → make_sort above ≡ false → lasting child ≡ true
 below_lasts session above f m = absurd (false≢true f)
-below_lasts a-make above f m = refl
-below_lasts a-target above f m = absurd (false≢true (sym m ∙ f))
+below_lasts a_make above f m = refl
+below_lasts a_target above f m = absurd (false≢true (sym m ∙ f))
 below_lasts step above f m = refl
 
-target_no_stand : (k : Sort) → k ≡ a-target → stand_sort k ≡ true → ⊥
+target_no_stand : (k : Sort) → k ≡ a_target → stand_sort k ≡ true → ⊥
 target_no_stand session e s = let z : ◌≡◌ {A = ℕ} 0 1 = cc in omega arith
-target_no_stand a-make e s = false≢true s
-target_no_stand a-target e s = false≢true s
+target_no_stand a_make e s = false≢true s
+target_no_stand a_target e s = false≢true s
 target_no_stand step e s = let z : ◌≡◌ {A = ℕ} 0 1 = cc in omega arith
 
 module _ {calls : List Call} {s : Build} (w : Whole calls s) where
@@ -116,7 +116,7 @@ module _ {calls : List Call} {s : Build} (w : Whole calls s) where
     sides_from : is_make (kind_at s.places m.place) ≡ false → SidesApart calls m a.number b.number → judged s m a.number b.number ≡ true
     sides_from no_make r =
         cond-false (is_make (kind_at s.places m.place)) _ _ no_make
-        ∙ ends-before-from _ _ r.0 r.1 (side_end_from m.place m.left a.number r.0 (left_lasts no_make) r.2) (side_start_from m.place m.right b.number r.1 r.3) r.4
+        ∙ ends_before_from _ _ r.0 r.1 (side_end_from m.place m.left a.number r.0 (left_lasts no_make) r.2) (side_start_from m.place m.right b.number r.1 r.3) r.4
 
     -- below a make the sides are targets
     left_target : is_make (kind_at s.places m.place) ≡ true → TargetPlace s m.left
@@ -130,14 +130,14 @@ module _ {calls : List Call} {s : Build} (w : Whole calls s) where
         record { within = let z = length-map s.places shape in let l = t.0 in omega arith; sort = t.1 }
 
     -- below a target no side is the target itself
-    left_other : (shape_at (shapes s.places) m.place).sort ≡ a-target → m.left ≡ m.place → ⊥
+    left_other : (shape_at (shapes s.places) m.place).sort ≡ a_target → m.left ≡ m.place → ⊥
     left_other is_target e =
         ⊎_elim
         (λ here. target_no_stand _ (ap (λ x. (shape_at (shapes s.places) x).sort) here.1 ∙ is_target) (ap stand_sort (sort_is s w.sound a.place) ∙ ka.stands))
         (λ br. branch_apart (parents s.places) w.sound.tree.earlier br e)
         meets.left
 
-    right_other : (shape_at (shapes s.places) m.place).sort ≡ a-target → m.right ≡ m.place → ⊥
+    right_other : (shape_at (shapes s.places) m.place).sort ≡ a_target → m.right ≡ m.place → ⊥
     right_other is_target e =
         ⊎_elim
         (λ here. target_no_stand _ (ap (λ x. (shape_at (shapes s.places) x).sort) here.1 ∙ is_target) (ap stand_sort (sort_is s w.sound b.place) ∙ kb.stands))
@@ -147,26 +147,26 @@ module _ {calls : List Call} {s : Build} (w : Whole calls s) where
     rule_to : (k : Sort) → (shape_at (shapes s.places) m.place).sort ≡ k → judged s m a.number b.number ≡ true → Rule k calls m a.number b.number
     rule_to session e j = sides_to (is_make_at session e) j
     rule_to step e j = sides_to (is_make_at step e) j
-    rule_to a-make e j =
-        let makes = is_make_at a-make e in
+    rule_to a_make e j =
+        let makes = is_make_at a_make e in
         w.rowed.told m.right m.left (record {
           first = right_target makes;
           second = left_target makes;
           needed = (λ i. needs s.rows (row_is s w.sound m.right i) (row_is s w.sound m.left i)) ∙ sym (cond-true (is_make (kind_at s.places m.place)) _ _ makes) ∙ j;
         })
-    rule_to a-target e j =
-        let r = sides_to (is_make_at a-target e) j in
+    rule_to a_target e j =
+        let r = sides_to (is_make_at a_target e) j in
         (r.0, r.1, ⊎_elim (λ here. absurd (left_other e here.0)) (λ away. away.1) r.2, ⊎_elim (λ here. absurd (right_other e here.0)) (λ away. away.1) r.3, r.4)
 
     rule_from : (k : Sort) → (shape_at (shapes s.places) m.place).sort ≡ k → Rule k calls m a.number b.number → judged s m a.number b.number ≡ true
     rule_from session e r = sides_from (is_make_at session e) r
     rule_from step e r = sides_from (is_make_at step e) r
-    rule_from a-make e r =
-        let makes = is_make_at a-make e in
+    rule_from a_make e r =
+        let makes = is_make_at a_make e in
         cond-true (is_make (kind_at s.places m.place)) _ _ makes
         ∙ sym (λ i. needs s.rows (row_is s w.sound m.right i) (row_is s w.sound m.left i))
         ∙ (prerequisite_rows s w.sound w.rowed m.left m.right r).needed
-    rule_from a-target e r = sides_from (is_make_at a-target e) (r.0, r.1, inr (left_other e, r.2), inr (right_other e, r.3), r.4)
+    rule_from a_target e r = sides_from (is_make_at a_target e) (r.0, r.1, inr (left_other e, r.2), inr (right_other e, r.3), r.4)
 
   before_whole : (a b : Timestamp) → Decides (before_in s a b) (Before calls a b)
   before_whole a b =

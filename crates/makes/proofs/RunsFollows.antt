@@ -9,7 +9,7 @@ use Rattle.order.specs.Runs.{Call, tell, stamp}
 use Rattle.makes.specs.declared.places.Place.{Place}
 use Rattle.makes.specs.Machine.{Build, lives_in, born_at, with_step, turned_make, declared, died, counted, slots_from, target_at}
 use Rattle.makes.specs.Order.{make_machine}
-use Rattle.makes.specs.Places.{make as a-make, make_sort, is_make, targets_of, kind_at, Shape, shape, shapes, shape_at, parents_of, counts, stand, birth_at}
+use Rattle.makes.specs.Places.{make as a_make, make_sort, is_make, targets_of, kind_at, Shape, shape, shapes, shape_at, parents_of, counts, stand, birth_at}
 use Rattle.makes.specs.Runs.{next_place, place_in, make_in, is_place, the, targets_in, target_in}
 use Rattle.makes.specs.Sound.{Sound}
 use Rattle.makes.specs.Entries.{more_shapes, more_counts, stand_within, stand_is_stand}
@@ -217,7 +217,7 @@ module _ {calls : List Call} (s : Build) (f : Follows calls s) (sound : Sound s)
   pub declarer : make_in calls p ≡ Some h
   declarer = found_make f sound own at makes
 
-  h_make : (shape_at (shapes s.places) h).sort ≡ a-make
+  h_make : (shape_at (shapes s.places) h).sort ≡ a_make
   h_make = is_make_sort _ (ap make_sort (ap (λ (y : Shape). y.sort) (shape_is s.places h)) ∙ makes)
 
   -- the targets of the make h, and of the others
@@ -250,7 +250,7 @@ module _ {calls : List Call} (s : Build) (f : Follows calls s) (sound : Sound s)
       omega arith
 
   -- a slot of another make, or an earlier one of this make, is another slot
-  slot_other : (m k : ℕ) → m < length s.places → (shape_at (shapes s.places) m).sort ≡ a-make → k < get_or (counts s.places) m 0
+  slot_other : (m k : ℕ) → m < length s.places → (shape_at (shapes s.places) m).sort ≡ a_make → k < get_or (counts s.places) m 0
       → (shape_at (shapes s.places) m).ordinal * s.room.targets + k ≡ slot → ⊥
   slot_other m k w makes-m low e =
       let few-m = sound.slots.few m in
@@ -263,7 +263,7 @@ module _ {calls : List Call} (s : Build) (f : Follows calls s) (sound : Sound s)
       let d = ap (λ n. n * s.room.targets) o in
       omega (arith, same, d, c, low)
 
-  kept_slot : (m k : ℕ) → m < length s.places → (shape_at (shapes s.places) m).sort ≡ a-make → k < get_or (counts s.places) m 0
+  kept_slot : (m k : ℕ) → m < length s.places → (shape_at (shapes s.places) m).sort ≡ a_make → k < get_or (counts s.places) m 0
       → get_or grown_state.slots ((shape_at (shapes s.places) m).ordinal * s.room.targets + k) 0 ≡ get_or (targets_in calls m) k 0
   kept_slot m k w makes-m low =
       get_or-set_other s.slots slot ((shape_at (shapes s.places) m).ordinal * s.room.targets + k) (length s.places) 0 (slot_other m k w makes-m low) ∙ f.slotted m k w makes-m low
@@ -291,7 +291,7 @@ module _ {calls : List Call} (s : Build) (f : Follows calls s) (sound : Sound s)
         (kept_slot h k h_within h_make (omega arith) ∙ sym (ap (λ xs. get_or xs k 0) own_targets ∙ get_or_append_left (targets_in calls h) (next_place calls ∷ []) 0 k (omega arith))))
         (cases_eq k (get_or (counts s.places) h 0))
 
-    other_slotted : (m k : ℕ) → (m ≡ h → ⊥) → (shape_at (shapes grown_state.places) m).sort ≡ a-make → k < get_or (counts s.places) m 0 → Slotted m k
+    other_slotted : (m k : ℕ) → (m ≡ h → ⊥) → (shape_at (shapes grown_state.places) m).sort ≡ a_make → k < get_or (counts s.places) m 0 → Slotted m k
     other_slotted m k ne makes-m low =
         let l = length-map s.places (λ (y : Place). targets_of y.kind) in
         let w : m < length s.places = ⊎_elim (λ w. w) (λ past. let z = get_or_past (counts s.places) m 0 (omega arith) in absurd (omega arith)) (cases_lt m (length s.places)) in

@@ -7,7 +7,7 @@ use Rattle.makes.specs.declared.places.Kind.{Kind}
 use Rattle.makes.specs.declared.places.Kind.TheVariants.{Session, Make, Target, Step}
 use Rattle.makes.specs.declared.places.Place.{Place}
 use Rattle.makes.specs.Machine.{Build, lives_in}
-use Rattle.makes.specs.Places.{Sort, session, make as a-make, target as a-target, step, make_sort, stand_sort, sort_of, is_make, is_stand, targets_of, start_of, kind_at, shapes, shape_at, parents, counts, lives, starts, ends, stand, birth_at}
+use Rattle.makes.specs.Places.{Sort, session, make as a_make, target as a_target, step, make_sort, stand_sort, sort_of, is_make, is_stand, targets_of, start_of, kind_at, shapes, shape_at, parents, counts, lives, starts, ends, stand, birth_at}
 use Rattle.makes.specs.Runs.{sorts_in, sort_in, next_place, place_in, make_in, targets_in, parents_in, Peopled, Starts, Ended, Orderly}
 use Rattle.makes.specs.Sound.{fits_below, lasting, TargetOf}
 use Rattle.makes.specs.Tree.{up, Holds, line, levels}
@@ -24,7 +24,7 @@ use Rattle.makes.specs.Times.{some_some}
 use Rattle.makes.specs.Views.{start_is}
 
 -- only a make has targets, and each step has its start
-targets_make : (k : Kind) → 0 < targets_of k → sort_of k ≡ a-make
+targets_make : (k : Kind) → 0 < targets_of k → sort_of k ≡ a_make
 targets_make Session h = absurd (omega arith)
 targets_make (Make status ordinal targets) h = refl
 targets_make (Target row) h = absurd (omega arith)
@@ -72,7 +72,7 @@ module _ {calls : List Call} {s : Build} (w : Whole calls s) where
       let lodged = inr (f.0, f.1.within, f.1.live, refl) in
       subst (λ y. (y ≡ 0) ⊎ (sort_in calls y ≡ step)) at (stand_told (stand s.places h) (stand_within s w.sound h lodged) (stand_is_stand s w.sound h lodged))
 
-  owned_at : (p m : ℕ) → make_in calls p ≡ Some m → (sort_in calls m ≡ a-make) × (place_in calls p ≡ Some (up (parents_in calls) m))
+  owned_at : (p m : ℕ) → make_in calls p ≡ Some m → (sort_in calls m ≡ a_make) × (place_in calls p ≡ Some (up (parents_in calls) m))
   owned_at p m e =
       let f = found_made w.follows w.sound e in
       let h = (birth_at s.births f.0).home in
@@ -82,7 +82,7 @@ module _ {calls : List Call} {s : Build} (w : Whole calls s) where
         st.place ∙ ap Some (stand_above w.follows w.sound h at.0 ∙ ap (up (parents s.places)) at.1 ∙ ap (λ us. up us m) w.follows.tree),
       )
 
-  targets_at : (m k : ℕ) → k < length (targets_in calls m) → (sort_in calls (get_or (targets_in calls m) k 0) ≡ a-target) × (up (parents_in calls) (get_or (targets_in calls m) k 0) ≡ m)
+  targets_at : (m k : ℕ) → k < length (targets_in calls m) → (sort_in calls (get_or (targets_in calls m) k 0) ≡ a_target) × (up (parents_in calls) (get_or (targets_in calls m) k 0) ≡ m)
   targets_at m k low =
       let n = w.follows.declared m in
       let c = count_is s.places m in
@@ -118,10 +118,10 @@ module _ {calls : List Call} {s : Build} (w : Whole calls s) where
     where
       by_sort : (k : Sort) → (shape_at (shapes s.places) x).sort ≡ k → is_some (get_or (starts s.places) x None) ≡ true
       by_sort session e = absurd (session_lasts_not _ (told x ∙ e) l)
-      by_sort a-make e =
+      by_sort a_make e =
           held_started s w.sound x y (subst (λ us. Holds us x y) (sym w.follows.tree) held) e
           (in_shapes w.follows w.sound (lasting_within y (ap lasting is-step))) (ap stand_sort (sym (told y) ∙ is-step))
-      by_sort a-target e = absurd (false≢true (sym (ap lasting (told x ∙ e)) ∙ l))
+      by_sort a_target e = absurd (false≢true (sym (ap lasting (told x ∙ e)) ∙ l))
       by_sort step e = ap is_some (start_is s.places x) ∙ step_start (kind_at s.places x) (sym (sort_is s w.sound x) ∙ e)
 
   -- ended exactly if the count is 0

@@ -6,8 +6,8 @@ use Rattle.order.specs.Runs.{Call}
 use Rattle.makes.specs.declared.places.Kind.TheVariants.{Make, Target, Step}
 use Rattle.makes.specs.declared.places.Status.TheVariants.{Unstarted}
 use Rattle.makes.specs.declared.places.Place.{Place}
-use Rattle.makes.specs.Machine.{Build, lives_in, born_at, with_step, turned_make, declared, died, counted, target_at}
-use Rattle.makes.specs.Places.{Sort, session, make as a-make, target as a-target, step, make_sort, stand_sort, is_make, targets_of, kind_begun, kind_declared, with_kind, one_less, no_place, place_at, kind_at, Shape, shape, shapes, shape_at, parents_of, parents, counts, stand, birth_at}
+use Rattle.makes.specs.Machine.{Build, lives_in, born_at, with_step, turned_make, declared, died, target_at}
+use Rattle.makes.specs.Places.{Sort, session, make as a_make, target as a_target, step, make_sort, stand_sort, is_make, targets_of, kind_begun, kind_declared, with_kind, one_less, no_place, place_at, kind_at, Shape, shape, shapes, shape_at, parents_of, parents, counts, stand, birth_at}
 use Rattle.makes.specs.Runs.{sorts_in, sort_in, next_place, place_in, make_in, targets_in, target_in, parents_in}
 use Rattle.makes.specs.Sound.{Sound}
 use Rattle.makes.specs.Tree.{line}
@@ -121,7 +121,7 @@ pub record Follows (calls : List Call) (s : Build) : Type 0 where
   pub living : (i : ℕ) → i < length s.births → (birth_at s.births i).live ≡ true → Standing calls s.places (birth_at s.births i).process (birth_at s.births i).home
   pub nobody : (p : ℕ) → lives_in s p ≡ false → (place_in calls p ≡ None) × (make_in calls p ≡ None)
   pub declared : (m : ℕ) → length (targets_in calls m) ≡ get_or (counts s.places) m 0
-  pub slotted : (m k : ℕ) → m < length s.places → (shape_at (shapes s.places) m).sort ≡ a-make → k < get_or (counts s.places) m 0
+  pub slotted : (m k : ℕ) → m < length s.places → (shape_at (shapes s.places) m).sort ≡ a_make → k < get_or (counts s.places) m 0
       → get_or s.slots ((shape_at (shapes s.places) m).ordinal * s.room.targets + k) 0 ≡ get_or (targets_in calls m) k 0
 
 -- by the shapes alone
@@ -144,8 +144,8 @@ standing_on {s = s} {t = t} {h = h} later within place own st = record {
 -- what stands is no make
 pub stands_no_make : (k : Sort) → stand_sort k ≡ true → make_sort k ≡ false
 stands_no_make session e = refl
-stands_no_make a-make e = absurd (false≢true e)
-stands_no_make a-target e = absurd (false≢true e)
+stands_no_make a_make e = absurd (false≢true e)
+stands_no_make a_target e = absurd (false≢true e)
 stands_no_make step e = refl
 
 -- the sort of a place, in the tree
@@ -224,7 +224,7 @@ module _ {calls : List Call} (s t : Build) (f : Follows calls s) (later : Later 
         let l = length-map s.places (λ (y : Place). targets_of y.kind) in
         ⊎_elim (λ h. h) (λ h. let z = get_or_past (counts s.places) m 0 (omega arith) in absurd (omega arith)) (cases_lt m (length s.places))
 
-    pub slotted_on : t.slots ≡ s.slots → t.room ≡ s.room → (m k : ℕ) → m < length t.places → (shape_at (shapes t.places) m).sort ≡ a-make → k < get_or (counts t.places) m 0
+    pub slotted_on : t.slots ≡ s.slots → t.room ≡ s.room → (m k : ℕ) → m < length t.places → (shape_at (shapes t.places) m).sort ≡ a_make → k < get_or (counts t.places) m 0
         → get_or t.slots ((shape_at (shapes t.places) m).ordinal * t.room.targets + k) 0 ≡ get_or (targets_in calls m) k 0
     slotted_on slots room m k w makes low =
         let c = same m in

@@ -2,12 +2,12 @@
 use Rattle.std.proofs.Common.{◌≡◌, ℕ, zero, suc, ◌+◌, ◌-◌, ◌*◌, ◌<◌, ◌≤◌, true, ◌&&◌, ◌||◌, eqb, leb, ◌⊎◌, List, [], ◌∷◌, ◌++◌, map, length, get_or, Some, sym, refl, ap, ◌∙◌, subst, inl, inr, ⊎_elim, arith}
 use Rattle.std.proofs.lemmas.List.{length-map}
 use Rattle.std.proofs.lemmas.Bool.{false≢true, eqb-true, eq-eqb, leb-true, and_parts, or_cases, or_left, or_right, cases_order}
-use Rattle.std.specs.List.{AllByRecursion as All}
+use Rattle.std.specs.List.{AllByRecursion}
 use Rattle.order.specs.Events.{birth, make, target, death, post, await}
 use Rattle.order.specs.Runs.{Call, tell, stamp}
 use Rattle.makes.specs.declared.places.Place.{Place}
 use Rattle.makes.specs.Machine.{Build, born_at, with_step, turned_make, declared, died, counted, slots_from, target_at, rows_of}
-use Rattle.makes.specs.Places.{make as a-make, target as a-target, step, make_sort, is_make, targets_of, kind_at, Shape, shape, shapes, shape_at, stand, birth_at, all_declared, row_in}
+use Rattle.makes.specs.Places.{make as a_make, target as a_target, step, make_sort, is_make, targets_of, kind_at, Shape, shape, shapes, shape_at, stand, birth_at, all_declared, row_in}
 use Rattle.makes.specs.Rows.{needs}
 use Rattle.makes.specs.Runs.{make_in, target_in, Names, named_now, named_before, Prerequisite, directly, through}
 use Rattle.makes.specs.Sound.{Sound, TargetOf}
@@ -23,7 +23,7 @@ use Rattle.makes.specs.Times.{some_some}
 -- x is the place of a target
 pub record TargetPlace (s : Build) (x : ℕ) : Type 0 where
   pub within : x < length s.places
-  pub sort : (shape_at (shapes s.places) x).sort ≡ a-target
+  pub sort : (shape_at (shapes s.places) x).sort ≡ a_target
 
 abbrev pub row_at : Build → ℕ → ℕ
 row_at s x = (shape_at (shapes s.places) x).row
@@ -131,14 +131,14 @@ module _ (s t : Build) (y : Place) (e : shapes t.places ≡ shapes s.places ++ s
       let n = more_size s t y e in
       ⊎_elim inr (⊎_elim inl (λ gt. absurd (omega arith))) (cases_order x (length s.places))
 
-  no_target : ((shape y).sort ≡ a-target → ⊥) → (x : ℕ) → TargetPlace t x → x < length s.places
+  no_target : ((shape y).sort ≡ a_target → ⊥) → (x : ℕ) → TargetPlace t x → x < length s.places
   no_target other x h =
       ⊎_elim (λ w. w) (λ new. absurd (other (sym (ap (λ (z : Shape). z.sort) (ap (shape_at (shapes t.places)) new ∙ new_shape s t y e)) ∙ h.sort))) (old_or_new x h)
 
-make_no_target : a-make ≡ a-target → ⊥
+make_no_target : a_make ≡ a_target → ⊥
 make_no_target e = let z : ◌≡◌ {A = ℕ} 0 1 = cc in omega arith
 
-step_no_target : step ≡ a-target → ⊥
+step_no_target : step ≡ a_target → ⊥
 step_no_target e = let z : ◌≡◌ {A = ℕ} 0 1 = cc in omega arith
 
 module _ {calls : List Call} (s : Build) (rowed : Rowed calls s) where
@@ -188,7 +188,7 @@ module _ (rows : List ℕ) (g : ℕ → ℕ) (v : ℕ) where
   reached_from (k ∷ ks) zero low e = or_left _ _ (or_right (needs rows (g k) v) _ (eq-eqb (g k) v e))
   reached_from (k ∷ ks) (suc j) low e = or_right (needs rows (g k) v || eqb (g k) v) _ (reached_from ks j (omega arith) e)
 
-all_rows : (g : ℕ → ℕ) (n : ℕ) (ks : List ℕ) → ((j : ℕ) → j < length ks → g (get_or ks j 0) < n) → All (λ u. u < n) (map g ks)
+all_rows : (g : ℕ → ℕ) (n : ℕ) (ks : List ℕ) → ((j : ℕ) → j < length ks → g (get_or ks j 0) < n) → AllByRecursion (λ u. u < n) (map g ks)
 all_rows g n [] h = tt
 all_rows g n (k ∷ ks) h = (h 0 (omega arith), all_rows g n ks (λ j low. h (suc j) (omega arith)))
 
@@ -234,7 +234,7 @@ module _ {calls : List Call} (s : Build) (f : Follows calls s) (sound : Sound s)
     names_it : Names fresh (target_at s h (get_or ks j 0)) (tell (target p ks) ∷ calls)
     names_it = named_now maker low (sym (size f sound)) place_named
 
-  rows_few : All (λ u. u < 512) (rows_of s h ks)
+  rows_few : AllByRecursion (λ u. u < 512) (rows_of s h ks)
   rows_few = all_rows row_named 512 ks (λ j low. let a = row_few s sound _ (target_named j low) in let e = row_is_named j low in omega arith)
 
   row_fresh : row_at after fresh ≡ s.targets

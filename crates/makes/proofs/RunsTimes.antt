@@ -9,7 +9,7 @@ use Rattle.makes.specs.declared.places.Kind.{Kind}
 use Rattle.makes.specs.declared.places.Kind.TheVariants.{Session, Make, Target, Step}
 use Rattle.makes.specs.declared.places.Place.{Place}
 use Rattle.makes.specs.Machine.{Build, born_at, with_step, turned_make, declared, died, counted}
-use Rattle.makes.specs.Places.{make as a-make, step, make_sort, sort_of, is_make, start_of, end_of, kind_begun, kind_declared, with_kind, one_less, no_place, place_at, kind_at, Shape, shape, shapes, shape_at, parents, lives, starts, ends, stand, birth_at}
+use Rattle.makes.specs.Places.{make as a_make, step, make_sort, sort_of, is_make, start_of, end_of, kind_begun, kind_declared, with_kind, one_less, no_place, place_at, kind_at, Shape, shape, shapes, shape_at, parents, lives, starts, ends, stand, birth_at}
 use Rattle.makes.specs.Runs.{make_in, Peopled, own, Begun, begun_now, begun_before, Starts, step_born, first_step, started_before, Ended, last_death, ended_before}
 use Rattle.makes.specs.Sound.{lasting, Sound}
 use Rattle.makes.specs.Tree.{line}
@@ -27,7 +27,7 @@ use Rattle.makes.specs.Walks.{map_set_same}
 -- the starts and ends in the state, and what the calls tell
 pub record Timed (calls : List Call) (s : Build) : Type 0 where
   pub begun : (m : ℕ) → Begun m calls → is_some (get_or (starts s.places) m None) ≡ true
-  pub begun_to : (m n : ℕ) → (shape_at (shapes s.places) m).sort ≡ a-make → get_or (starts s.places) m None ≡ Some n → Begun m calls
+  pub begun_to : (m n : ℕ) → (shape_at (shapes s.places) m).sort ≡ a_make → get_or (starts s.places) m None ≡ Some n → Begun m calls
   pub starts_to : (x n : ℕ) → get_or (starts s.places) x None ≡ Some n → Starts x calls n
   pub starts_from : (x n : ℕ) → Starts x calls n → get_or (starts s.places) x None ≡ Some n
   pub ends_to : (x n : ℕ) → get_or (ends s.places) x None ≡ Some n → Ended x calls n
@@ -40,7 +40,7 @@ none_more [] (suc x) = refl
 none_more (y ∷ ys) zero = refl
 none_more (y ∷ ys) (suc x) = none_more ys x
 
-step_no_make : step ≡ a-make → ⊥
+step_no_make : step ≡ a_make → ⊥
 step_no_make e = let z : ◌≡◌ {A = ℕ} 0 1 = cc in omega arith
 
 -- what is there is within the list
@@ -281,7 +281,7 @@ module _ {calls : List Call} (s : Build) (f : Follows calls s) (sound : Sound s)
   start_other x w ne = start_old x w ∙ get_or-set_other (starts s.places) h x start_on None ne
 
   -- the make is running: its own process lives
-  h_sort : (shape_at (shapes s.places) h).sort ≡ a-make
+  h_sort : (shape_at (shapes s.places) h).sort ≡ a_make
   h_sort = is_make_sort _ (ap make_sort (ap (λ (y : Shape). y.sort) (shape_is s.places h)) ∙ makes)
 
   h_open : is_some (end_of (kind_at s.places h)) ≡ false
@@ -352,7 +352,7 @@ module _ {calls : List Call} (s : Build) (f : Follows calls s) (sound : Sound s)
   step_timed = record {
     begun = begun_on;
     begun_to = λ m n l e.
-        by_place (λ y. (shape_at (shapes stepped.places) y).sort ≡ a-make → get_or (starts stepped.places) y None ≡ Some n → Begun y (tell (birth p q t) ∷ calls))
+        by_place (λ y. (shape_at (shapes stepped.places) y).sort ≡ a_make → get_or (starts stepped.places) y None ≡ Some n → Begun y (tell (birth p q t) ∷ calls))
         (λ sort at. absurd (step_no_make (sym new_sort ∙ sort)))
         (λ sort at. begun_now target_named h_is)
         (λ y w ne sort at. begun_before (timed.begun_to y n (sym (ap (λ (z : Shape). z.sort) (later.shape y w)) ∙ sort) (sym (start_other y w ne) ∙ at)))

@@ -14,7 +14,7 @@ use Rattle.order.specs.Runs.{Call, tell, stamp, Ran, none, told, given}
 use Rattle.makes.specs.declared.room.Room.{Room}
 use Rattle.makes.specs.Machine.{Build, start, found, counted, stamp_from}
 use Rattle.makes.specs.Order.{make_machine}
-use Rattle.makes.specs.Places.{target as a-target, no_place, shape, stand, birth_at}
+use Rattle.makes.specs.Places.{target as a_target, no_place, shape, stand, birth_at}
 use Rattle.makes.specs.Sound.{Sound}
 use Rattle.makes.specs.Deaths.{counted_sound, counted_later}
 use Rattle.makes.specs.Found.{Found, Nobody, found_tells}
@@ -43,7 +43,7 @@ nothing_declared : (x : ℕ) → ◌≡◌ {A = ℕ} (get_or (0 ∷ []) x 0) 0
 nothing_declared zero = refl
 nothing_declared (suc x) = refl
 
-session_only : (x : ℕ) → (get_or (shape no_place ∷ []) x (shape no_place)).sort ≡ a-target → ⊥
+session_only : (x : ℕ) → (get_or (shape no_place ∷ []) x (shape no_place)).sort ≡ a_target → ⊥
 session_only zero e = let z : ◌≡◌ {A = ℕ} 0 1 = cc in omega arith
 session_only (suc x) e = let z : ◌≡◌ {A = ℕ} 0 1 = cc in omega arith
 

@@ -1,5 +1,5 @@
 -- A new make order has what reachable states keep.
-use Rattle.std.proofs.Common.{◌≡◌, ℕ, zero, suc, ◌+◌, ◌-◌, ◌*◌, ◌<◌, ◌≤◌, Bool, true, false, List, [], ◌∷◌, length, get_or, replicate, Some, None, Option, sym, refl, ap, ◌∙◌, arith}
+use Rattle.std.proofs.Common.{◌≡◌, ℕ, zero, suc, ◌+◌, ◌*◌, ◌<◌, ◌≤◌, true, List, [], ◌∷◌, length, get_or, replicate, Some, None, refl, ap, ◌∙◌, arith}
 use Rattle.std.proofs.lemmas.List.{length-replicate}
 use Rattle.std.proofs.lemmas.Bool.{false≢true}
 use Rattle.makes.specs.declared.births.Birth.{Birth}
@@ -7,8 +7,8 @@ use Rattle.makes.specs.declared.places.Place.{Place}
 use Rattle.makes.specs.declared.room.Room.{Room}
 use Rattle.makes.specs.Machine.{capped, start_in, start}
 use Rattle.makes.specs.Places.{Sort, session, make, target, step, no_place, Shape, shape, shape_at, parents_of}
-use Rattle.makes.specs.Sound.{levels_left, makes_above, SoundTree, SoundTimes, SoundBirths, SoundSlots, TargetOf, lasting, Sound}
-use Rattle.makes.specs.Tree.{up, Earlier, levels}
+use Rattle.makes.specs.Sound.{levels_left, makes_above, SoundTree, lasting, Sound}
+use Rattle.makes.specs.Tree.{Earlier, levels}
 
 -- the session alone
 abbrev alone : List Shape

@@ -1,17 +1,14 @@
 -- A timestamp and a death keep what reachable states have.
-use Rattle.std.specs.Prelude.{◌≡◌, ℕ, ◌+◌, ◌-◌, ◌<◌, ◌≤◌, Bool, true, false, cond, ◌⊎◌, List, [], ◌∷◌, ◌++◌, length, get_or, is_some, Some, None, Option, ◌==◌, nat_eq, slice_index, slice_index_or, refl}
+use Rattle.std.specs.Prelude.{◌≡◌, ℕ, ◌+◌, ◌-◌, ◌<◌, ◌≤◌, Bool, true, false, cond, ◌⊎◌, length, get_or, is_some, Some, None, ◌==◌, nat_eq, slice_index, slice_index_or, refl}
 use Rattle.std.proofs.Common.{inl, inr, ⊎_elim, sym, ap, subst, ◌∙◌, arith}
 use Rattle.std.proofs.lemmas.List.{length-map, length-set}
-use Rattle.std.proofs.lemmas.Bool.{false≢true, ne_eqb, eqb-true, eqb-false, cases_Bool}
+use Rattle.std.proofs.lemmas.Bool.{ne_eqb}
 use Rattle.order.specs.Meaning.{last_number}
-use Rattle.makes.specs.declared.births.Birth.{Birth}
-use Rattle.makes.specs.declared.places.Kind.{Kind}
 use Rattle.makes.specs.declared.places.Place.{Place}
 use Rattle.makes.specs.Machine.{Build, counted, died}
-use Rattle.makes.specs.Places.{sort_of, targets_of, start_of, end_of, kind_closed, one_more, one_less, no_place, place_at, kind_at, Shape, shape, shapes, shape_at, parents_of, parents, counts, lives, starts, ends, changed, birth_at}
-use Rattle.makes.specs.Sound.{lasting, SoundTree, SoundTimes, SoundBirths, SoundSlots, SoundRoom, Sound}
+use Rattle.makes.specs.Places.{sort_of, targets_of, start_of, end_of, kind_closed, one_less, place_at, kind_at, shape, shapes, shape_at, parents, counts, lives, starts, ends, birth_at}
+use Rattle.makes.specs.Sound.{lasting, SoundTree, SoundTimes, SoundBirths, SoundSlots, Sound}
 use Rattle.makes.specs.Tree.{line, holds}
-use Rattle.makes.specs.Found.{Found}
 use Rattle.makes.specs.Judging.{sort_is}
 use Rattle.makes.specs.Sorts.{less_targets, less_start, less_end, closed_some}
 use Rattle.makes.specs.Later.{Later}

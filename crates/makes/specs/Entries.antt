@@ -1,28 +1,23 @@
 -- A birth keeps what reachable states have: with its parent, or at a new step.
-use Rattle.std.specs.Prelude.{◌≡◌, ℕ, ◌+◌, ◌-◌, ◌*◌, ◌<◌, ◌≤◌, Bool, true, false, cond, ◌||◌, ◌⊎◌, List, [], ◌∷◌, ◌++◌, map, length, is_some, Some, None, Option, ◌==◌, ◌≢◌, slice_index, slice_index_or, refl}
-use Rattle.std.proofs.Common.{inl, inr, ⊎_elim, sym, ap, subst, ◌∙◌, arith}
-use Rattle.std.proofs.lemmas.List.{length-map, length_push, length-set, length-append, map_push, map-set, get_or_push, get_or_append_left, get_or-set_same, get_or-set_other}
-use Rattle.std.proofs.lemmas.Bool.{false≢true, eqb-true, ne_eqb, eq-eqb, cases_eq, cases_Bool, or_cases, or_right}
+use Rattle.std.specs.Prelude.{◌≡◌, ℕ, ◌+◌, ◌<◌, ◌≤◌, Bool, true, false, cond, ◌⊎◌, List, [], ◌∷◌, ◌++◌, length, None, ◌==◌, ◌≢◌, slice_index, slice_index_or, refl}
+use Rattle.std.proofs.Common.{inl, ⊎_elim, sym, ap, subst, ◌∙◌, arith}
+use Rattle.std.proofs.lemmas.List.{length-map, length_push}
+use Rattle.std.proofs.lemmas.Bool.{false≢true, cases_Bool, or_right}
 use Rattle.order.specs.Meaning.{last_number}
 use Rattle.makes.specs.declared.births.Birth.{Birth}
-use Rattle.makes.specs.declared.places.Kind.{Kind}
-use Rattle.makes.specs.declared.places.Kind.TheVariants.{Step}
 use Rattle.makes.specs.declared.places.Place.{Place}
-use Rattle.makes.specs.Machine.{Build, born_at, with_step, target_at, slots_from}
-use Rattle.makes.specs.Places.{Sort, session, make, target, step, make_sort, target_sort, stand_sort, sort_of, is_make, is_stand, ordinal_of, row_of, targets_of, start_of, end_of, kind_begun, with_kind, one_more, no_place, place_at, kind_at, Shape, shape, shapes, shape_at, parents_of, parents, counts, lives, starts, ends, stand, changed, birth_at}
-use Rattle.makes.specs.Sound.{lasting, SoundTree, SoundTimes, SoundBirths, SoundSlots, Sound, TargetOf}
+use Rattle.makes.specs.Machine.{Build, born_at}
+use Rattle.makes.specs.Places.{Sort, session, make, target, step, make_sort, target_sort, stand_sort, is_make, is_stand, targets_of, start_of, end_of, one_more, place_at, kind_at, shape, shapes, shape_at, parents, counts, lives, starts, ends, stand, changed, birth_at}
+use Rattle.makes.specs.Sound.{lasting, SoundTree, SoundTimes, SoundBirths, SoundSlots, Sound}
 use Rattle.makes.specs.Tree.{up, line, holds}
-use Rattle.makes.specs.Found.{Found}
 use Rattle.makes.specs.Judging.{sort_is}
-use Rattle.makes.specs.Sorts.{begun_shape, begun_targets, begun_end, begun_start, begun_some}
 use Rattle.makes.specs.Later.{Later}
-use Rattle.makes.specs.Lodgers.{lodger_counts, births_place, births_born}
-use Rattle.makes.specs.Shapes.{shape_is, count_is, changed_same, length_changed, shape_old, shape_new, up_old, up_new, earlier_more, tree_more, above_make, above_target, is_make_sort}
-use Rattle.makes.specs.Slots.{count_more, slots_place}
-use Rattle.makes.specs.Times.{times_born, times_step}
-use Rattle.makes.specs.TreeLemmas.{holds_more, holds_kept, holds_decides, holds_le}
-use Rattle.makes.specs.Views.{live_is, start_is, end_is, walked_at, not_above}
-use Rattle.makes.specs.Walks.{up_at, map_set_same}
+use Rattle.makes.specs.Lodgers.{lodger_counts, births_born}
+use Rattle.makes.specs.Shapes.{changed_same, length_changed, above_make, is_make_sort}
+use Rattle.makes.specs.Times.{times_born}
+use Rattle.makes.specs.TreeLemmas.{holds_more, holds_decides, holds_le}
+use Rattle.makes.specs.Views.{live_is, walked_at}
+use Rattle.makes.specs.Walks.{up_at}
 
 pub live_more : (b : Bool) (p : Place) → (cond b (one_more p) p).live ≡ cond b (p.live + 1) p.live
 live_more true p = refl

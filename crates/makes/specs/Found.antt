@@ -1,12 +1,12 @@
 -- The search for a live process: what it tells, and who lives after each event.
-use Rattle.std.specs.Prelude.{◌≡◌, ℕ, zero, suc, ◌+◌, ◌<◌, ◌≤◌, Bool, true, false, cond, not, ◌&&◌, ◌||◌, ◌⊎◌, List, [], ◌∷◌, ◌++◌, reverse, length, is_some, Some, None, Decides, Option, MatchOption, ◌==◌, ◌≢◌, slice_set, refl}
+use Rattle.std.specs.Prelude.{◌≡◌, ℕ, ◌<◌, Bool, true, false, cond, not, ◌&&◌, ◌||◌, ◌⊎◌, List, [], ◌∷◌, ◌++◌, reverse, length, is_some, Some, None, Decides, Option, MatchOption, ◌==◌, ◌≢◌, slice_set, refl}
 use Rattle.std.proofs.Common.{inl, inr, ⊎_elim, sym, ap, subst, ◌∙◌, arith}
 use Rattle.std.proofs.lemmas.List.{length_push, length-set, length-reverse, reverse-append, reverse-reverse, get_or-set_same, get_or-set_other}
-use Rattle.std.proofs.lemmas.Bool.{false≢true, eqb-true, eq-eqb, and_from, and_parts, cases_Bool, cases_eq}
+use Rattle.std.proofs.lemmas.Bool.{false≢true, eqb-true, eq-eqb, and_from, and_parts, cases_eq}
 use Rattle.std.proofs.lemmas.Bool.Decides.{same_from_decides, Decides-eqb, Decides-not, Decides-and, Decides-or, Decides-like}
 use Rattle.makes.specs.declared.births.Birth.{Birth}
 use Rattle.makes.specs.Places.{no_birth, birth_at, is_live, live_birth}
-use Rattle.makes.specs.Lodgers.{birth_old, birth_new, birth_cases, set_cases}
+use Rattle.makes.specs.Lodgers.{birth_old, birth_new, birth_cases}
 
 -- the birth i is that of the live process p
 pub record Found (bs : List Birth) (p i : ℕ) : Type 0 where

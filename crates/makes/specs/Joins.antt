@@ -1,12 +1,12 @@
 -- Rows joined to a row, one after the other: the words, and the bits.
-use Rattle.std.specs.Prelude.{◌≡◌, ℕ, zero, suc, ◌+◌, ◌-◌, ◌*◌, ◌/◌, ◌%◌, ◌^◌, ◌<◌, ◌≤◌, Bool, true, false, ◌||◌, ◌⊎◌, List, [], ◌∷◌, ◌++◌, map, length, take, replicate, fold, ◌==◌, slice_index, slice_set, refl}
-use Rattle.std.proofs.Common.{inl, inr, ⊎_elim, sym, ap, subst, ◌∙◌, arith}
+use Rattle.std.specs.Prelude.{◌≡◌, ℕ, ◌+◌, ◌-◌, ◌*◌, ◌/◌, ◌%◌, ◌^◌, ◌<◌, ◌≤◌, Bool, true, false, ◌||◌, List, [], ◌∷◌, ◌++◌, map, length, take, replicate, fold, ◌==◌, slice_index, slice_set, refl}
+use Rattle.std.proofs.Common.{⊎_elim, sym, ap, subst, ◌∙◌, arith}
 use Rattle.std.specs.Int.Bits.{bit_or}
 use Rattle.std.proofs.lemmas.List.FromFn.{get_or-map-range_with_len}
 use Rattle.std.proofs.lemmas.List.{length-set, length-append, map_more, take_all, get_or-set_same, get_or-set_other, get_or-replicate, get_or_append_left, get_or-append_right}
 use Rattle.std.proofs.lemmas.List.Sums.{fold_push}
 use Rattle.std.proofs.lemmas.Bool.{false≢true, eqb-true, eq-eqb, ne_eqb, cases_eq, cases_order, or_cases, or_left, or_right}
-use Rattle.std.specs.List.{AllByRecursion as All}
+use Rattle.std.specs.List.{AllByRecursion}
 use Rattle.order.proofs.Bits.{bit_none, bit-bit_or, bit_power}
 use Rattle.order.specs.Bits.{bit}
 use Rattle.makes.specs.Rows.{word, needs, with_row, with_bit, joined, joined_row}
@@ -72,7 +72,7 @@ or_regroup : (a b c d : Bool) → (((a || b) || c) || d) ≡ (a || ((b || c) || 
 or_regroup true b c d = refl
 or_regroup false b c d = refl
 
-bits_folded : (rows : List ℕ) (us row : List ℕ) (v : ℕ) → All (λ u. u < 512) us → v < 512 → row_bit (fold (joined rows) row us) v ≡ (row_bit row v || reaches rows us v)
+bits_folded : (rows : List ℕ) (us row : List ℕ) (v : ℕ) → AllByRecursion (λ u. u < 512) us → v < 512 → row_bit (fold (joined rows) row us) v ≡ (row_bit row v || reaches rows us v)
 bits_folded rows [] row v small hv = sym (or_none (row_bit row v))
 bits_folded rows (u ∷ us) row v small hv =
     bits_folded rows us (joined rows row u) v small.1 hv
@@ -86,7 +86,7 @@ length_folded rows (u ∷ us) row e = length_folded rows us (joined rows row u) 
 pub length_joined_row : (rows us : List ℕ) → length (joined_row rows us) ≡ 8
 length_joined_row rows us = length_folded rows us (replicate 8 0) refl
 
-bit_joined_row : (rows us : List ℕ) (v : ℕ) → All (λ u. u < 512) us → v < 512 → row_bit (joined_row rows us) v ≡ reaches rows us v
+bit_joined_row : (rows us : List ℕ) (v : ℕ) → AllByRecursion (λ u. u < 512) us → v < 512 → row_bit (joined_row rows us) v ≡ reaches rows us v
 bit_joined_row rows us v small hv =
     bits_folded rows us (replicate 8 0) v small hv
     ∙ ap (λ n. bit n (v % 64) || reaches rows us v) (get_or-replicate 8 (v / 64) 0 0 (omega arith))
@@ -97,14 +97,14 @@ module _ (rows us : List ℕ) (targets : ℕ) (whole : length rows ≡ targets *
   pub needs_old : (t v : ℕ) → t < targets → v < 512 → needs (rows ++ joined_row rows us) t v ≡ needs rows t v
   needs_old t v h small = ap (λ n. bit n (v % 64)) (get_or_append_left rows (joined_row rows us) 0 (t * 8 + v / 64) (omega arith))
 
-  pub needs_new : (v : ℕ) → All (λ u. u < 512) us → v < 512 → needs (rows ++ joined_row rows us) targets v ≡ reaches rows us v
+  pub needs_new : (v : ℕ) → AllByRecursion (λ u. u < 512) us → v < 512 → needs (rows ++ joined_row rows us) targets v ≡ reaches rows us v
   needs_new v few small =
       let at : (targets * 8 + v / 64) - targets * 8 ≡ v / 64 = omega arith in
       ap (λ n. bit n (v % 64)) (get_or-append_right rows (joined_row rows us) (targets * 8) (targets * 8 + v / 64) 0 whole (omega arith) ∙ ap (λ n. slice_index (joined_row rows us) n) at)
       ∙ bit_joined_row rows us v few small
 
 -- what is reached lies below
-reached_lower : (rows us : List ℕ) (n v : ℕ) → All (λ u. (u < n) × (needs rows u v ≡ true → v < u)) us → reaches rows us v ≡ true → v < n
+reached_lower : (rows us : List ℕ) (n v : ℕ) → AllByRecursion (λ u. (u < n) × (needs rows u v ≡ true → v < u)) us → reaches rows us v ≡ true → v < n
 reached_lower rows [] n v each e = absurd (false≢true e)
 reached_lower rows (u ∷ us) n v each e =
     ⊎_elim
@@ -113,7 +113,7 @@ reached_lower rows (u ∷ us) n v each e =
     (or_cases (needs rows u v || u == v) _ e)
 
 -- what is reached passes on what it needs
-reached_chained : (rows us : List ℕ) (v w : ℕ) → All (λ u. needs rows u v ≡ true → needs rows u w ≡ true) us → reaches rows us v ≡ true → needs rows v w ≡ true → reaches rows us w ≡ true
+reached_chained : (rows us : List ℕ) (v w : ℕ) → AllByRecursion (λ u. needs rows u v ≡ true → needs rows u w ≡ true) us → reaches rows us v ≡ true → needs rows v w ≡ true → reaches rows us w ≡ true
 reached_chained rows [] v w each e d = absurd (false≢true e)
 reached_chained rows (u ∷ us) v w each e d =
     ⊎_elim
@@ -121,12 +121,12 @@ reached_chained rows (u ∷ us) v w each e d =
     (λ rest. or_right (needs rows u w || u == w) _ (reached_chained rows us v w each.1 rest d))
     (or_cases (needs rows u v || u == v) _ e)
 
-all_of : {P Q : ℕ → Type 0} → ((x : ℕ) → P x → Q x) → (xs : List ℕ) → All P xs → All Q xs
+all_of : {P Q : ℕ → Type 0} → ((x : ℕ) → P x → Q x) → (xs : List ℕ) → AllByRecursion P xs → AllByRecursion Q xs
 all_of f [] h = tt
 all_of f (x ∷ xs) h = (f x h.0, all_of f xs h.1)
 
 -- One target more, with earlier ones as prerequisites.
-pub rows_more : (targets : ℕ) (rows us : List ℕ) → targets < 512 → SoundRows targets rows → All (λ u. u < targets) us → SoundRows (targets + 1) (rows ++ joined_row rows us)
+pub rows_more : (targets : ℕ) (rows us : List ℕ) → targets < 512 → SoundRows targets rows → AllByRecursion (λ u. u < targets) us → SoundRows (targets + 1) (rows ++ joined_row rows us)
 rows_more targets rows us few sound below =
     let small = all_of {P = λ u. u < targets} {Q = λ u. u < 512} (λ u h. omega arith) us below in
     let old = needs_old rows us targets sound.whole in

@@ -1,18 +1,14 @@
 -- What decides between two timestamps, at the place where they meet: it goes on, and never leads back.
-use Rattle.std.specs.Prelude.{◌≡◌, ℕ, zero, suc, ◌+◌, ◌<◌, ◌≤◌, Bool, true, false, cond, ◌⊎◌, List, length, is_some, Some, None, Option, ◌==◌, ◌≢◌, slice_index_or, refl}
-use Rattle.std.proofs.Common.{inl, inr, ⊎_elim, sym, ap, subst, ◌∙◌, arith}
+use Rattle.std.specs.Prelude.{◌≡◌, ℕ, zero, suc, ◌<◌, ◌≤◌, Bool, true, false, cond, length, is_some, Some, None, Option, ◌==◌, ◌≢◌, slice_index_or, refl}
+use Rattle.std.proofs.Common.{inl, inr, ⊎_elim, sym, ap, ◌∙◌, arith}
 use Rattle.std.proofs.lemmas.List.{length-map}
-use Rattle.std.proofs.lemmas.Bool.{false≢true, eqb-false, eq-eqb, ne_eqb, ltb-true, lt-ltb, cases_eq, cases_Bool}
-use Rattle.makes.specs.declared.climb.Meeting.{Meeting}
-use Rattle.makes.specs.declared.places.Kind.{Kind}
-use Rattle.makes.specs.declared.places.Kind.TheVariants.{Session, Make, Target, Step}
-use Rattle.makes.specs.declared.places.Place.{Place}
+use Rattle.std.proofs.lemmas.Bool.{false≢true, ne_eqb, ltb-true, lt-ltb}
 use Rattle.makes.specs.Machine.{Build, ends_before, side_start, side_end, judged}
-use Rattle.makes.specs.Places.{Sort, session, make, target, step, make_sort, target_sort, stand_sort, sort_of, is_make, is_stand, row_of, start_of, end_of, place_at, kind_at, Shape, shape, shapes, shape_at, parents_of, parents, starts, ends}
+use Rattle.makes.specs.Places.{Sort, session, make, target, step, make_sort, stand_sort, sort_of, is_make, is_stand, row_of, start_of, end_of, kind_at, Shape, shape, shapes, shape_at, parents, starts}
 use Rattle.makes.specs.Rows.{needs}
-use Rattle.makes.specs.Sound.{fits_below, SoundTree, Sound}
+use Rattle.makes.specs.Sound.{fits_below, Sound}
 use Rattle.makes.specs.Tree.{up, Holds, Branch, Side}
-use Rattle.makes.specs.Shapes.{shape_is, above_step, above_target, above_make, is_target, is_make_sort}
+use Rattle.makes.specs.Shapes.{shape_is, above_step, above_target, above_make}
 use Rattle.makes.specs.TreeLemmas.{holds_le, holds_split}
 use Rattle.makes.specs.Views.{start_is, end_is}
 

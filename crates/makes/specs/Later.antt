@@ -1,8 +1,8 @@
 -- A later state: what was known stays known, and before does not change.
 use Rattle.std.specs.Prelude.{◌≡◌, ℕ, ◌+◌, ◌<◌, ◌≤◌, Bool, true, false, cond, ◌&&◌, ◌⊎◌, List, length, is_some, Some, None, Option, nat_lt, slice_index_or, refl}
-use Rattle.std.proofs.Common.{inl, inr, ⊎_elim, sym, ap, subst, ◌∙◌, arith}
-use Rattle.std.proofs.lemmas.List.{length-map, get_or-map}
-use Rattle.std.proofs.lemmas.Bool.{false≢true, le-ltb, eqb-true, eqb-false, eq-eqb, ne_eqb, cases_eq}
+use Rattle.std.proofs.Common.{inl, inr, ⊎_elim, sym, ap, ◌∙◌, arith}
+use Rattle.std.proofs.lemmas.List.{length-map}
+use Rattle.std.proofs.lemmas.Bool.{false≢true, le-ltb, eq-eqb, ne_eqb, cases_eq}
 use Rattle.order.specs.declared.Timestamp.{Timestamp}
 use Rattle.order.specs.Meaning.{Advanced}
 use Rattle.makes.specs.declared.climb.Meeting.{Meeting}
@@ -10,14 +10,13 @@ use Rattle.makes.specs.declared.places.Kind.{Kind}
 use Rattle.makes.specs.declared.places.Kind.TheVariants.{Session, Make, Target, Step}
 use Rattle.makes.specs.declared.places.Place.{Place}
 use Rattle.makes.specs.Machine.{Build, known_in, before_in, judged, ends_before, side_start, side_end, meaning}
-use Rattle.makes.specs.Places.{Sort, session, make, target, step, make_sort, stand_sort, sort_of, is_make, is_stand, row_of, start_of, end_of, kind_at, Shape, shape, shapes, shape_at, parents_of, parents, starts, ends}
+use Rattle.makes.specs.Places.{Sort, session, make, target, step, make_sort, stand_sort, sort_of, is_make, row_of, start_of, end_of, kind_at, Shape, shape, shapes, shape_at, parents, starts, ends}
 use Rattle.makes.specs.Rows.{needs}
 use Rattle.makes.specs.Sound.{fits_below, Sound}
-use Rattle.makes.specs.Tree.{up, Holds, Branch, Side, Meets, climb}
-use Rattle.makes.specs.Judging.{sort_is, row_is, side_row, below_make, side_target, held_started}
+use Rattle.makes.specs.Tree.{up, Side, Meets, climb}
+use Rattle.makes.specs.Judging.{sort_is, side_row, held_started}
 use Rattle.makes.specs.Lawful.{KnownParts, known_parts, known_from}
 use Rattle.makes.specs.Shapes.{shape_is}
-use Rattle.makes.specs.Times.{some_some}
 use Rattle.makes.specs.TreeLemmas.{climb_meets, climb_kept, holds_le}
 use Rattle.makes.specs.Views.{start_is, end_is}
 use Rattle.makes.specs.Walks.{up_at}

@@ -1,9 +1,8 @@
 -- The make order keeps the law of orders.
-use Rattle.std.specs.Prelude.{◌≡◌, ℕ, zero, suc, ◌+◌, ◌*◌, ◌<◌, ◌≤◌, min, Bool, true, false, cond, not, ◌&&◌, ◌||◌, ◌⊎◌, List, [], ◌∷◌, ◌++◌, length, replicate, is_some, IfSome, is_ok, IfOk, Some, None, Ok, Err, Decides, count_by, Option, Result, MatchOption, ◌==◌, ◌≢◌, nat_lt, refl}
-use Rattle.std.proofs.Common.{inl, inr, ⊎_elim, sym, ap, subst, ◌∙◌, arith}
-use Rattle.std.proofs.lemmas.List.{length-map, length-replicate}
+use Rattle.std.specs.Prelude.{◌≡◌, ℕ, suc, ◌+◌, ◌<◌, ◌≤◌, Bool, true, false, cond, not, ◌&&◌, List, [], ◌∷◌, length, is_some, IfSome, is_ok, IfOk, Some, None, Ok, Decides, count_by, Option, MatchOption, ◌==◌, ◌≢◌, nat_lt, refl}
+use Rattle.std.proofs.Common.{inl, inr, ⊎_elim, sym, ap, ◌∙◌, arith}
 use Rattle.std.proofs.lemmas.Result.{IfOk-at_ok}
-use Rattle.std.proofs.lemmas.Bool.{false≢true, eqb-true, eqb-false, eq-eqb, ne_eqb, ltb-true, ltb-false, lt-ltb, leb-false, leb-true, not-false, or_parts, and_parts, cases_eq, cases_Bool}
+use Rattle.std.proofs.lemmas.Bool.{false≢true, eqb-false, eq-eqb, ltb-true, ltb-false, lt-ltb, leb-false, not-false, or_parts, and_parts, cases_Bool}
 use Rattle.std.specs.Option.{option_map}
 use Rattle.std.specs.Result.{result_err}
 use Rattle.faults.specs.declared.OrderFault.TheVariants.{NotLive, UsedUp}
@@ -16,13 +15,12 @@ use Rattle.order.specs.Right.{Right, EventTaken, StampGiven}
 use Rattle.makes.specs.declared.births.Birth.{Birth}
 use Rattle.makes.specs.Machine.{Build, found, lives_in, home_of, parent_home, born, born_at, with_step, turned_make, declared, died, counted, birth_checks, birth_from, make_checks, make_from, target_checks, target_from, death_from, tell_make_order, stamp_from}
 use Rattle.makes.specs.Order.{make_machine}
-use Rattle.makes.specs.Places.{is_make, targets_of, place_at, kind_at, shapes, shape, stand, parents, lives, no_birth, birth_at, live_birth, all_declared}
+use Rattle.makes.specs.Places.{is_make, targets_of, place_at, kind_at, stand, parents, birth_at}
 use Rattle.makes.specs.Sound.{counts_at, Sound}
-use Rattle.makes.specs.Tree.{holds}
 use Rattle.makes.specs.Deaths.{counted_sound, counted_later, died_sound, died_later}
 use Rattle.makes.specs.Entries.{ParentHome, home_within, stand_within, born_sound, born_later, stand_is_stand}
 use Rattle.makes.specs.Found.{Found, Nobody, found_tells, live_decides, lives_born, lives_moved, lives_died}
-use Rattle.makes.specs.Later.{Later, advanced}
+use Rattle.makes.specs.Later.{advanced}
 use Rattle.makes.specs.Lawful.{make_lawful, known_from}
 use Rattle.makes.specs.Lodgers.{lodger_counts}
 use Rattle.makes.specs.Shapes.{count_by_cons}

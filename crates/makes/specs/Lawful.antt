@@ -1,7 +1,7 @@
 -- The law of the meaning: before goes upward, goes on, and stands between known timestamps.
-use Rattle.std.specs.Prelude.{◌≡◌, ℕ, ◌+◌, ◌<◌, ◌≤◌, Bool, true, false, cond, ◌&&◌, ◌⊎◌, List, length, nat_le, nat_lt, refl}
-use Rattle.std.proofs.Common.{inl, inr, ⊎_elim, sym, ap, subst, ◌∙◌, arith}
-use Rattle.std.proofs.lemmas.Bool.{false≢true, ltb-true, lt-ltb, leb-true, le-leb, and_from, and_parts}
+use Rattle.std.specs.Prelude.{◌≡◌, ℕ, ◌<◌, ◌≤◌, true, List, length, nat_le, nat_lt}
+use Rattle.std.proofs.Common.{sym, ap, subst, ◌∙◌, arith}
+use Rattle.std.proofs.lemmas.Bool.{ltb-true, lt-ltb, leb-true, le-leb, and_from, and_parts}
 use Rattle.order.specs.declared.Timestamp.{Timestamp}
 use Rattle.order.specs.Meaning.{Lawful}
 use Rattle.makes.specs.declared.climb.Meeting.{Meeting}

@@ -1,11 +1,11 @@
 -- The births and how many of them are at or below each place: one place more, a process born, turned into a make, and dead.
-use Rattle.std.specs.Prelude.{◌≡◌, ℕ, zero, suc, ◌+◌, ◌-◌, ◌<◌, ◌≤◌, Bool, true, false, cond, ◌&&◌, ◌||◌, ◌⊎◌, List, [], ◌∷◌, ◌++◌, length, count_by, ◌≢◌, slice_index, slice_set, refl}
-use Rattle.std.proofs.Common.{inl, inr, ⊎_elim, sym, ap, subst, ◌∙◌, arith}
+use Rattle.std.specs.Prelude.{◌≡◌, ℕ, ◌+◌, ◌-◌, ◌<◌, Bool, true, false, cond, ◌&&◌, ◌||◌, List, [], ◌∷◌, ◌++◌, length, count_by, ◌≢◌, slice_index, slice_set, refl}
+use Rattle.std.proofs.Common.{⊎_elim, sym, ap, subst, ◌∙◌, arith}
 use Rattle.std.proofs.ByRecursion.{All-from_get_or}
 use Rattle.std.proofs.lemmas.List.{length_push, length-set, get_or_append_left, get_or_push, get_or_past, get_or-set_same, get_or-set_other}
 use Rattle.std.proofs.lemmas.List.Sums.{sum_by_push, sum_by-set, get_or-le-sum_by}
 use Rattle.std.proofs.lemmas.Bool.{false≢true, cases_eq, cases_order, eq-eqb, ne_eqb}
-use Rattle.std.specs.List.{AllByRecursion as All}
+use Rattle.std.specs.List.{AllByRecursion}
 use Rattle.makes.specs.declared.births.Birth.{Birth}
 use Rattle.makes.specs.Places.{target_sort, Shape, shape_at, parents_of, no_birth, birth_at}
 use Rattle.makes.specs.Sound.{counts_at, SoundBirths}
@@ -15,7 +15,7 @@ use Rattle.makes.specs.Slots.{count_more}
 use Rattle.makes.specs.TreeLemmas.{holds_kept, holds_more}
 use Rattle.makes.specs.Views.{not_above}
 
-count_by_none : {X : Type 0} (f : X → Bool) (xs : List X) → All (λ x. f x ≡ false) xs → count_by f xs ≡ 0
+count_by_none : {X : Type 0} (f : X → Bool) (xs : List X) → AllByRecursion (λ x. f x ≡ false) xs → count_by f xs ≡ 0
 count_by_none f [] h = refl
 count_by_none f (x ∷ xs) h = count_by_cons f x xs ∙ (λ i. cond (h.0 i) 1 0 + count_by_none f xs h.1 i)
 

@@ -5,7 +5,7 @@ use Rattle.faults.specs.declared.OrderFault.{OrderFault}
 use Rattle.faults.specs.declared.OrderFault.TheVariants.{NotLive, LiveAlready, NotMake, MakeAlready, Undeclared, TooDeep, TableFull, UsedUp, Unfit}
 use Rattle.order.specs.declared.Timestamp.{Timestamp}
 use Rattle.order.specs.Events.{Told, birth, make, target, death, post, await}
-use Rattle.order.specs.Machine.{Machine, checked}
+use Rattle.order.specs.Machine.{checked}
 use Rattle.order.specs.Meaning.{Meaning, last_number}
 use Rattle.makes.specs.declared.births.Birth.{Birth}
 use Rattle.makes.specs.declared.climb.Meeting.{Meeting}

@@ -8,7 +8,7 @@ use Rattle.makes.specs.declared.climb.Meeting.{Meeting}
 use Rattle.makes.specs.declared.room.Room.{Room}
 use Rattle.makes.specs.Machine.{Build, start}
 use Rattle.makes.specs.Order.{make_machine}
-use Rattle.makes.specs.Places.{Sort, session, make as a-make, target as a-target, step, make_sort}
+use Rattle.makes.specs.Places.{Sort, session, make as a_make, target as a_target, step, make_sort}
 use Rattle.makes.specs.Sound.{fits_below, lasting}
 use Rattle.makes.specs.Tree.{up, Holds, Meets, line, levels}
 
@@ -20,8 +20,8 @@ SinceStart calls s = (room : Room) × Ran make_machine (start room) calls s
 abbrev pub sorts_in : List Call → List Sort
 sorts_in [] = session ∷ []
 sorts_in (tell (birth p parent t) ∷ calls) = cond (t == 0) (sorts_in calls) (sorts_in calls ++ step ∷ [])
-sorts_in (tell (make p) ∷ calls) = sorts_in calls ++ a-make ∷ []
-sorts_in (tell (target p ks) ∷ calls) = sorts_in calls ++ a-target ∷ []
+sorts_in (tell (make p) ∷ calls) = sorts_in calls ++ a_make ∷ []
+sorts_in (tell (target p ks) ∷ calls) = sorts_in calls ++ a_target ∷ []
 sorts_in (tell (death p) ∷ calls) = sorts_in calls
 sorts_in (tell (post p f) ∷ calls) = sorts_in calls
 sorts_in (tell (await p f) ∷ calls) = sorts_in calls
@@ -143,8 +143,8 @@ SidesApart calls m a b = (e : ℕ) × (k : ℕ) × SideEnds calls m.place m.left
 
 -- Where two places meet, the sort of the meeting place says what orders the numbers a and b at them.
 abbrev pub Rule : Sort → List Call → Meeting → ℕ → ℕ → Type 0
-Rule a-make calls m a b = Prerequisite calls m.left m.right
-Rule a-target calls m a b = (e : ℕ) × (k : ℕ) × Ended m.left calls e × Starts m.right calls k × (e < k)
+Rule a_make calls m a b = Prerequisite calls m.left m.right
+Rule a_target calls m a b = (e : ℕ) × (k : ℕ) × Ended m.left calls e × Starts m.right calls k × (e < k)
 Rule session calls m a b = SidesApart calls m a b
 Rule step calls m a b = SidesApart calls m a b
 
@@ -163,8 +163,8 @@ pub record Orderly (calls : List Call) : Type 0 where
   pub placed : (p : ℕ) → Decides (is_some (place_in calls p)) (Alive p calls)
   pub stands : (p x : ℕ) → place_in calls p ≡ Some x → (x ≡ 0) ⊎ (sort_in calls x ≡ step)
   -- a make stands right below its own process's place, and its targets stand right below it
-  pub owned : (p m : ℕ) → make_in calls p ≡ Some m → (sort_in calls m ≡ a-make) × (place_in calls p ≡ Some (up (parents_in calls) m))
-  pub targets : (m k : ℕ) → k < length (targets_in calls m) → (sort_in calls (slice_index (targets_in calls m) k) ≡ a-target) × (up (parents_in calls) (slice_index (targets_in calls m) k) ≡ m)
+  pub owned : (p m : ℕ) → make_in calls p ≡ Some m → (sort_in calls m ≡ a_make) × (place_in calls p ≡ Some (up (parents_in calls) m))
+  pub targets : (m k : ℕ) → k < length (targets_in calls m) → (sort_in calls (slice_index (targets_in calls m) k) ≡ a_target) × (up (parents_in calls) (slice_index (targets_in calls m) k) ≡ m)
   -- below the session and below steps stand makes, below makes targets, below targets steps
   pub fits : (x : ℕ) → 0 < x → x < next_place calls → fits_below (sort_in calls x) (sort_in calls (up (parents_in calls) x)) ≡ true
   -- at most 16 makes hold a place, so that it is at most 48 levels below the session

@@ -1,16 +1,16 @@
 -- The shapes of places: what keeps them, and the tree with one place more.
-use Rattle.std.specs.Prelude.{◌≡◌, ℕ, zero, suc, ◌+◌, ◌-◌, ◌*◌, ◌<◌, ◌≤◌, Bool, true, false, cond, ◌⊎◌, List, [], ◌∷◌, ◌++◌, map, length, sum_by, count_by, ◌==◌, ◌≢◌, slice_index, slice_set, refl}
-use Rattle.std.proofs.Common.{inl, inr, ⊎_elim, sym, ap, subst, ◌∙◌, arith}
+use Rattle.std.specs.Prelude.{◌≡◌, ℕ, zero, suc, ◌+◌, ◌-◌, ◌*◌, ◌<◌, ◌≤◌, Bool, true, false, cond, List, [], ◌∷◌, ◌++◌, map, length, count_by, ◌==◌, ◌≢◌, slice_index, slice_set, refl}
+use Rattle.std.proofs.Common.{⊎_elim, sym, ap, subst, ◌∙◌, arith}
 use Rattle.std.proofs.ByRecursion.{All-weaker}
 use Rattle.std.proofs.lemmas.List.{length-set, length-map, length_push, map_push, get_or_append_left, get_or_push, get_or_past}
 use Rattle.std.proofs.lemmas.List.Sums.{sum_by-cons}
 use Rattle.std.proofs.lemmas.Bool.{cases_eq, eqb-false, cases_order, false≢true}
-use Rattle.std.specs.List.{AllByRecursion as All}
+use Rattle.std.specs.List.{AllByRecursion}
 use Rattle.makes.specs.declared.places.Place.{Place}
-use Rattle.makes.specs.Places.{Sort, session, make, target, step, make_sort, target_sort, stand_sort, targets_of, no_place, place_at, kind_at, Shape, shape, shapes, shape_at, parents_of, parents, counts, changed}
+use Rattle.makes.specs.Places.{Sort, session, make, target, step, make_sort, target_sort, stand_sort, targets_of, no_place, place_at, kind_at, Shape, shape, shapes, shape_at, parents_of, counts, changed}
 use Rattle.makes.specs.Sound.{fits_below, levels_left, makes_above, SoundTree}
 use Rattle.makes.specs.Tree.{up, Earlier, line_in, line, levels}
-use Rattle.makes.specs.TreeLemmas.{length_line, line_some, line_more, line_same}
+use Rattle.makes.specs.TreeLemmas.{line_some, line_more, line_same}
 use Rattle.makes.specs.Walks.{map_set_same}
 
 pub shape_is : (ps : List Place) (x : ℕ) → shape_at (shapes ps) x ≡ shape (place_at ps x)
@@ -36,17 +36,17 @@ length_changed f ps (x ∷ xs) = length_changed f (slice_set ps x (f (place_at p
 pub count_by_cons : {X : Type 0} (f : X → Bool) (x : X) (xs : List X) → count_by f (x ∷ xs) ≡ cond (f x) 1 0 + count_by f xs
 count_by_cons f x xs = sum_by-cons (λ y. cond (f y) 1 0) x xs
 
-pub count_by_same : {X : Type 0} (f g : X → Bool) (xs : List X) → All (λ x. f x ≡ g x) xs → count_by f xs ≡ count_by g xs
+pub count_by_same : {X : Type 0} (f g : X → Bool) (xs : List X) → AllByRecursion (λ x. f x ≡ g x) xs → count_by f xs ≡ count_by g xs
 count_by_same f g [] h = refl
 count_by_same f g (x ∷ xs) h =
     count_by_cons f x xs ∙ (λ i. cond (h.0 i) 1 0 + count_by_same f g xs h.1 i) ∙ sym (count_by_cons g x xs)
 
 -- a line goes down in numbers
-pub line_under : (us : List ℕ) → Earlier us → (k x : ℕ) → All (λ y. y ≤ x) (line_in us k x)
+pub line_under : (us : List ℕ) → Earlier us → (k x : ℕ) → AllByRecursion (λ y. y ≤ x) (line_in us k x)
 line_under us earlier zero x = tt
 line_under us earlier (suc k) x = (omega arith, go (line_under us earlier k (up us x)) (x == 0) refl)
   where
-    go : All (λ y. y ≤ up us x) (line_in us k (up us x)) → (b : Bool) → (x == 0) ≡ b → All (λ y. y ≤ x) (elim b [ true ↦ [] | false ↦ line_in us k (up us x) ])
+    go : AllByRecursion (λ y. y ≤ up us x) (line_in us k (up us x)) → (b : Bool) → (x == 0) ≡ b → AllByRecursion (λ y. y ≤ x) (elim b [ true ↦ [] | false ↦ line_in us k (up us x) ])
     go rest true e = tt
     go rest false e = let n = eqb-false x 0 e in let l = earlier x (omega arith) in All-weaker (λ y. y ≤ up us x) (λ y. y ≤ x) (λ y h. omega arith) _ rest
 

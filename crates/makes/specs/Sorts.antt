@@ -1,12 +1,12 @@
 -- What each change of a place's kind keeps.
-use Rattle.std.specs.Prelude.{◌≡◌, ℕ, ◌+◌, ◌-◌, Bool, true, false, cond, ◌⊎◌, is_some, Some, None, Option, ◌==◌, refl}
-use Rattle.std.proofs.Common.{inl, inr, sym, ap, ◌∙◌, arith}
+use Rattle.std.specs.Prelude.{◌≡◌, ℕ, ◌+◌, ◌-◌, Bool, true, false, cond, ◌⊎◌, is_some, Some, None, ◌==◌, refl}
+use Rattle.std.proofs.Common.{inl, inr, sym}
 use Rattle.std.proofs.lemmas.Bool.{false≢true}
 use Rattle.makes.specs.declared.places.Kind.{Kind}
 use Rattle.makes.specs.declared.places.Kind.TheVariants.{Session, Make, Target, Step}
 use Rattle.makes.specs.declared.places.Place.{Place}
 use Rattle.makes.specs.declared.places.Status.TheVariants.{Unstarted, Running, Ended}
-use Rattle.makes.specs.Places.{is_make, sort_of, targets_of, start_of, end_of, kind_begun, kind_declared, kind_closed, with_kind, one_more, one_less, shape}
+use Rattle.makes.specs.Places.{is_make, sort_of, targets_of, start_of, end_of, kind_begun, kind_declared, kind_closed, with_kind, one_less, shape}
 use Rattle.makes.specs.Sound.{lasting}
 
 -- a make whose step is born

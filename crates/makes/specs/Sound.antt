@@ -1,5 +1,5 @@
 -- What reachable states of the make order keep.
-use Rattle.std.specs.Prelude.{◌≡◌, ℕ, ◌+◌, ◌-◌, ◌*◌, ◌<◌, ◌≤◌, Bool, true, false, ◌&&◌, ◌||◌, List, map, length, get_or, is_some, Some, None, count_by, Option, ◌==◌, slice_index, slice_index_or}
+use Rattle.std.specs.Prelude.{◌≡◌, ℕ, ◌+◌, ◌-◌, ◌*◌, ◌<◌, ◌≤◌, Bool, true, false, ◌&&◌, List, length, get_or, is_some, Some, None, count_by, Option, ◌==◌, slice_index, slice_index_or}
 use Rattle.order.specs.Meaning.{last_number}
 use Rattle.makes.specs.declared.births.Birth.{Birth}
 use Rattle.makes.specs.declared.places.Place.{Place}

@@ -1,16 +1,15 @@
 -- A birth at a new step keeps what reachable states have.
-use Rattle.std.specs.Prelude.{◌≡◌, ℕ, ◌+◌, ◌-◌, ◌*◌, ◌<◌, ◌≤◌, Bool, true, false, cond, ◌||◌, ◌⊎◌, List, [], ◌∷◌, ◌++◌, map, length, get_or, is_some, Some, None, Option, ◌==◌, ◌≢◌, slice_index, slice_index_or, slice_set, refl}
+use Rattle.std.specs.Prelude.{◌≡◌, ℕ, ◌+◌, ◌-◌, ◌*◌, ◌<◌, ◌≤◌, true, false, cond, ◌||◌, ◌⊎◌, List, [], ◌∷◌, ◌++◌, length, get_or, is_some, Some, None, ◌==◌, ◌≢◌, slice_index, slice_index_or, slice_set, refl}
 use Rattle.std.proofs.Common.{inl, inr, ⊎_elim, sym, ap, subst, ◌∙◌, arith}
-use Rattle.std.proofs.lemmas.List.{length-map, length_push, length-set, map_push, map-set, get_or_push, get_or_past, get_or_append_left, get_or-set_same, get_or-set_other}
+use Rattle.std.proofs.lemmas.List.{length-map, length_push, length-set, map_push, map-set, get_or_past, get_or_append_left, get_or-set_same, get_or-set_other}
 use Rattle.std.proofs.lemmas.Bool.{false≢true, ne_eqb, eq-eqb, eqb-true, cases_eq, or_cases}
 use Rattle.order.specs.Meaning.{last_number}
-use Rattle.makes.specs.declared.births.Birth.{Birth}
 use Rattle.makes.specs.declared.places.Kind.TheVariants.{Step}
 use Rattle.makes.specs.declared.places.Place.{Place}
-use Rattle.makes.specs.Machine.{Build, born_at, with_step, target_at, slots_from}
-use Rattle.makes.specs.Places.{make, target, step, make_sort, target_sort, is_make, ordinal_of, targets_of, start_of, end_of, kind_begun, with_kind, one_more, no_place, place_at, kind_at, Shape, shape, shapes, shape_at, parents_of, parents, counts, lives, starts, ends, changed, birth_at}
+use Rattle.makes.specs.Machine.{Build, born_at, with_step, target_at}
+use Rattle.makes.specs.Places.{make, target, step, make_sort, target_sort, is_make, targets_of, start_of, end_of, kind_begun, with_kind, one_more, no_place, place_at, kind_at, Shape, shape, shapes, shape_at, parents_of, parents, counts, lives, starts, ends, changed, birth_at}
 use Rattle.makes.specs.Sound.{lasting, levels_left, SoundTree, SoundTimes, SoundBirths, SoundSlots, Sound, TargetOf}
-use Rattle.makes.specs.Tree.{up, Earlier, itself, line, levels, holds}
+use Rattle.makes.specs.Tree.{up, Earlier, itself, line, holds}
 use Rattle.makes.specs.Entries.{ParentHome, more_shapes, more_counts, more_starts, more_ends, more_lives, home_within, home_peopled}
 use Rattle.makes.specs.Judging.{sort_is}
 use Rattle.makes.specs.Sorts.{begun_shape, begun_targets, begun_end, begun_start, begun_some}
@@ -20,7 +19,7 @@ use Rattle.makes.specs.Shapes.{shape_is, count_is, length_changed, shape_old, sh
 use Rattle.makes.specs.Slots.{count_more, slots_place}
 use Rattle.makes.specs.Times.{times_step}
 use Rattle.makes.specs.TreeLemmas.{holds_more, holds_kept, holds_decides, length_line, line_some}
-use Rattle.makes.specs.Views.{live_is, start_is, end_is}
+use Rattle.makes.specs.Views.{start_is, end_is}
 use Rattle.makes.specs.Walks.{map_set_same}
 
 step_target : step ≡ target → ⊥

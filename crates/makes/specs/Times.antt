@@ -1,9 +1,9 @@
 -- The starts and ends of makes and steps, event by event.
-use Rattle.std.specs.Prelude.{◌≡◌, ℕ, zero, suc, ◌+◌, ◌-◌, ◌<◌, ◌≤◌, Bool, true, false, cond, ◌⊎◌, List, [], ◌∷◌, ◌++◌, length, get_or, is_some, Some, None, Option, ◌==◌, ◌≢◌, nat_eq, slice_index, slice_index_or, slice_set, refl}
+use Rattle.std.specs.Prelude.{◌≡◌, ℕ, ◌+◌, ◌<◌, ◌≤◌, Bool, true, false, cond, ◌⊎◌, List, [], ◌∷◌, ◌++◌, length, get_or, is_some, Some, None, Option, ◌==◌, ◌≢◌, nat_eq, slice_index, slice_index_or, slice_set, refl}
 use Rattle.std.proofs.Common.{inl, inr, ⊎_elim, sym, ap, subst, ◌∙◌, arith}
 use Rattle.std.proofs.lemmas.List.{length_push, length-set, get_or_append_left, get_or_push, get_or_past, get_or-set_same, get_or-set_other}
 use Rattle.std.proofs.lemmas.Bool.{false≢true, ne_eqb, cases_eq, cases_order}
-use Rattle.makes.specs.Places.{Sort, step, Shape, shape_at, parents_of}
+use Rattle.makes.specs.Places.{step, Shape, shape_at, parents_of}
 use Rattle.makes.specs.Sound.{lasting, SoundTree, SoundTimes}
 use Rattle.makes.specs.Tree.{up, holds}
 use Rattle.makes.specs.Shapes.{shape_old, shape_new, up_old, up_new, above_target, above_step}

@@ -1,7 +1,7 @@
 -- The tree of places: what holds what, lines, and where two and three places meet.
 use Rattle.std.specs.Prelude.{◌≡◌, ℕ, zero, suc, ◌+◌, ◌-◌, ◌<◌, ◌≤◌, Bool, true, false, ◌||◌, ◌⊎◌, List, [], ◌∷◌, length, Decides, ◌==◌, ◌≢◌, nat_lt, refl}
 use Rattle.std.proofs.Common.{inl, inr, ⊎_elim, sym, ap, subst, ◌∙◌, add-one, arith}
-use Rattle.std.proofs.lemmas.Bool.{false≢true, eqb-true, eqb-false, eq-eqb, ne_eqb, ltb-true, ltb-false, lt-ltb, le-ltb, or_cases, or_left, or_right, cases_eq, cases_order}
+use Rattle.std.proofs.lemmas.Bool.{false≢true, eqb-true, eqb-false, eq-eqb, ne_eqb, lt-ltb, le-ltb, or_cases, or_left, or_right, cases_eq, cases_order}
 use Rattle.makes.specs.declared.climb.Meeting.{Meeting}
 use Rattle.makes.specs.Tree.{up, Earlier, Holds, itself, under, Branch, Side, Lowest, Meets, line_in, line, levels, among, holds, climb_in, climb}
 

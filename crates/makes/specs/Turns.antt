@@ -1,18 +1,17 @@
 -- A process that turns out to be a make, and a make's new target, keep what reachable states have.
-use Rattle.std.specs.Prelude.{◌≡◌, ℕ, ◌+◌, ◌-◌, ◌*◌, ◌<◌, ◌≤◌, Bool, true, false, cond, ◌&&◌, ◌⊎◌, List, [], ◌∷◌, ◌++◌, map, length, Some, None, Option, nat_le, slice_index, slice_index_or, slice_set, refl}
-use Rattle.std.proofs.Common.{inl, inr, ⊎_elim, sym, ap, subst, ◌∙◌, arith}
-use Rattle.std.proofs.lemmas.Nat.{mul-add-lt, mul-le}
+use Rattle.std.specs.Prelude.{◌≡◌, ℕ, ◌+◌, ◌-◌, ◌*◌, ◌<◌, ◌≤◌, true, false, ◌&&◌, List, [], ◌∷◌, ◌++◌, map, length, None, nat_le, slice_index, slice_index_or, slice_set, refl}
+use Rattle.std.proofs.Common.{inl, sym, ap, subst, ◌∙◌, arith}
+use Rattle.std.proofs.lemmas.Nat.{mul-add-lt}
 use Rattle.std.proofs.lemmas.List.{length-map, length_push, length-set, map_push, map-set, get_or_append_left, set-append_left}
 use Rattle.std.proofs.lemmas.Bool.{false≢true, leb-true, and_parts}
-use Rattle.std.specs.List.{AllByRecursion as All}
+use Rattle.std.specs.List.{AllByRecursion}
 use Rattle.order.specs.Meaning.{last_number}
-use Rattle.makes.specs.declared.births.Birth.{Birth}
 use Rattle.makes.specs.declared.places.Kind.TheVariants.{Make, Target}
 use Rattle.makes.specs.declared.places.Place.{Place}
 use Rattle.makes.specs.declared.places.Status.TheVariants.{Unstarted}
 use Rattle.makes.specs.Machine.{Build, turned_make, declared, rows_of, slots_from}
-use Rattle.makes.specs.Places.{Sort, session, make, target, step, make_sort, target_sort, stand_sort, is_make, ordinal_of, targets_of, row_of, start_of, end_of, kind_declared, with_kind, no_place, place_at, kind_at, Shape, shape, shapes, shape_at, parents_of, parents, counts, lives, starts, ends, birth_at, all_declared, row_in}
-use Rattle.makes.specs.Sound.{lasting, SoundTree, SoundTimes, SoundBirths, SoundSlots, Sound, TargetOf}
+use Rattle.makes.specs.Places.{make, target, step, make_sort, stand_sort, is_make, ordinal_of, targets_of, start_of, end_of, kind_declared, with_kind, no_place, place_at, kind_at, Shape, shape, shapes, shape_at, counts, lives, starts, ends, birth_at, all_declared, row_in}
+use Rattle.makes.specs.Sound.{SoundTree, SoundTimes, SoundBirths, SoundSlots, Sound, TargetOf}
 use Rattle.makes.specs.Entries.{neither_stands}
 use Rattle.makes.specs.Joins.{rows_more, needs_old}
 use Rattle.makes.specs.Judging.{sort_is, row_is}
@@ -250,7 +249,7 @@ module _ (s : Build) (sound : Sound s) (more : s.number + 1 ≤ last_number) (m 
       let e = row_is s sound (slice_index s.slots (slots_from s m + (k - 1))) in
       omega arith
 
-  rows_below : (js : List ℕ) → all_declared (targets_of (kind_at s.places m)) js ≡ true → All (λ u. u < s.targets) (rows_of s m js)
+  rows_below : (js : List ℕ) → all_declared (targets_of (kind_at s.places m)) js ≡ true → AllByRecursion (λ u. u < s.targets) (rows_of s m js)
   rows_below [] e = tt
   rows_below (j ∷ js) e =
       let p = and_parts (nat_le 1 j && nat_le j (targets_of (kind_at s.places m))) _ e in

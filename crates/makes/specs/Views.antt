@@ -1,10 +1,10 @@
 -- What is seen of the table of places, place by place, and after a walk.
-use Rattle.std.specs.Prelude.{◌≡◌, ℕ, zero, suc, ◌+◌, ◌<◌, ◌≤◌, Bool, true, false, cond, ◌||◌, List, [], ◌∷◌, ◌++◌, map, length, Some, None, Option, ◌==◌, slice_index, slice_index_or, slice_set, refl}
+use Rattle.std.specs.Prelude.{◌≡◌, ℕ, zero, suc, ◌+◌, ◌<◌, Bool, true, false, cond, ◌||◌, List, [], ◌∷◌, length, None, ◌==◌, slice_index, slice_index_or, slice_set, refl}
 use Rattle.std.proofs.Common.{⊎_elim, sym, ap, ◌∙◌, arith}
 use Rattle.std.proofs.lemmas.List.{length-set, get_or-set_same, get_or-set_other}
-use Rattle.std.proofs.lemmas.Bool.{false≢true, eqb-false, eq-eqb, ne_eqb, cases_eq, cases_Bool}
+use Rattle.std.proofs.lemmas.Bool.{eqb-false, eq-eqb, ne_eqb, cases_eq, cases_Bool}
 use Rattle.makes.specs.declared.places.Place.{Place}
-use Rattle.makes.specs.Places.{targets_of, start_of, end_of, no_place, place_at, kind_at, counts, lives, starts, ends, changed}
+use Rattle.makes.specs.Places.{start_of, end_of, no_place, place_at, kind_at, lives, starts, ends, changed}
 use Rattle.makes.specs.Tree.{up, Earlier, line_in, line, among, holds}
 use Rattle.makes.specs.TreeLemmas.{holds_from_line, holds_le}
 

@@ -1,15 +1,13 @@
 -- Walks up the tree of places: what one turn does, and what the whole leaves.
-use Rattle.std.specs.Prelude.{◌≡◌, ℕ, zero, suc, ◌+◌, ◌-◌, ◌<◌, ◌≤◌, Bool, true, false, cond, ◌||◌, List, [], ◌∷◌, map, length, ◌==◌, ◌≢◌, slice_index_or, slice_set, refl}
-use Rattle.std.proofs.Common.{⊎_elim, sym, ap, subst, ◌∙◌, arith}
-use Rattle.std.proofs.lemmas.List.{length-set, get_or-set_same, get_or-set_other}
-use Rattle.std.proofs.lemmas.Bool.{false≢true, eqb-true, eqb-false, eq-eqb, ne_eqb, cases_eq, cond-true, cond-false}
-use Rattle.makes.specs.declared.climb.Meeting.{Meeting}
+use Rattle.std.specs.Prelude.{◌≡◌, ℕ, zero, suc, ◌+◌, ◌-◌, ◌<◌, ◌≤◌, Bool, true, false, cond, List, [], ◌∷◌, map, length, ◌==◌, ◌≢◌, slice_index_or, slice_set, refl}
+use Rattle.std.proofs.Common.{sym, ap, subst, ◌∙◌, arith}
+use Rattle.std.proofs.lemmas.List.{length-set, get_or-set_other}
 use Rattle.makes.specs.declared.places.Kind.{Kind}
 use Rattle.makes.specs.declared.places.Kind.TheVariants.{Session, Make, Target, Step}
 use Rattle.makes.specs.declared.places.Place.{Place}
 use Rattle.makes.specs.Places.{kind_closed, with_kind, one_less, no_place, place_at, shape, shapes, parents_of, parents, changed}
-use Rattle.makes.specs.Tree.{up, Earlier, Holds, itself, under, line_in, line, levels, among, holds, climb_in, climb}
-use Rattle.makes.specs.TreeLemmas.{holds_trans, holds_from_line, holds_le, holds_decides, line_more, length_line, line_some, turn_first, turn_second}
+use Rattle.makes.specs.Tree.{up, Earlier, Holds, itself, under, line, levels, climb_in, climb}
+use Rattle.makes.specs.TreeLemmas.{holds_trans, line_more, length_line, line_some, turn_first, turn_second}
 
 -- the parent of a place, in the table
 pub up_at : (ps : List Place) (x : ℕ) → up (parents ps) x ≡ (place_at ps x).parent

@@ -1,6 +1,6 @@
 // Which of two timestamps is before the other, at the place where they meet.
 ghost use Rattle.std.specs.Prelude.{◌≡◌, ◌+◌, ◌*◌, ◌<◌, ◌≤◌, true, length};
-ghost use Rattle.makes.specs.Machine.{ends_before as end-is-before, side_start as start-of-side, side_end as end-of-side, judged};
+ghost use Rattle.makes.specs.Machine.{ends_before as end_is_before, side_start as start_of_side, side_end as end_of_side, judged};
 ghost use Rattle.makes.specs.Model.{make_model};
 ghost use Rattle.makes.specs.Places.{is_make, row_of, kind_at};
 
@@ -11,7 +11,7 @@ use crate::state::Makes;
 
 // Whether the end has come, and is below the start.
 fn ends_before(end: Option<u32>, start: Option<u32>) -> bool
-    ensures answer { result ≡ end-is-before end start }
+    ensures answer { result ≡ end_is_before end start }
 {
     match (end, start) {
         (Some(end), Some(start)) => end < start,
@@ -22,7 +22,7 @@ fn ends_before(end: Option<u32>, start: Option<u32>) -> bool
 // The start of a side: the meeting place itself starts at the timestamp's number.
 fn side_start(places: &[Place], meeting: usize, side: usize, number: u32) -> Option<u32>
     requires within { side < length places.now }
-    ensures answer { result ≡ start-of-side places.now meeting side number }
+    ensures answer { result ≡ start_of_side places.now meeting side number }
 {
     if side == meeting {
         Some(number)
@@ -34,7 +34,7 @@ fn side_start(places: &[Place], meeting: usize, side: usize, number: u32) -> Opt
 // The end of a side: the meeting place itself ends at the timestamp's number.
 fn side_end(places: &[Place], meeting: usize, side: usize, number: u32) -> Option<u32>
     requires within { side < length places.now }
-    ensures answer { result ≡ end-of-side places.now meeting side number }
+    ensures answer { result ≡ end_of_side places.now meeting side number }
 {
     if side == meeting {
         Some(number)

@@ -1,6 +1,6 @@
 // Where processes and targets are found in a make order.
 ghost use Rattle.std.specs.Prelude.{◌≡◌, ◌+◌, ◌-◌, ◌<◌, ◌≤◌, length, IfSome};
-ghost use Rattle.makes.specs.Machine.{lives_in, home_of, parent_home as home-of-parent, slots_from, target_at};
+ghost use Rattle.makes.specs.Machine.{lives_in, home_of, parent_home as home_of_parent, slots_from, target_at};
 ghost use Rattle.makes.specs.Model.{make_model};
 ghost use Rattle.makes.specs.Places.{kind_at, place_at, birth_at, stand as standing};
 
@@ -38,7 +38,7 @@ impl Makes {
 
     // The home of a parent: the session for parent 0.
     pub(crate) fn parent_home(&self, parent: u32) -> Option<usize>
-        ensures answer { result ≡ home-of-parent (make_model self.now) parent }
+        ensures answer { result ≡ home_of_parent (make_model self.now) parent }
         ensures within { IfSome result (λ h. h < length self.now.places.items) }
     {
         if parent == 0 {

@@ -1,7 +1,7 @@
 // The places of a session, as a tree: below the session and below a step stand makes, below a make its targets, below a target its steps.
 // A place's number is its index in the table, where it comes after the place that it stands below.
 ghost use Rattle.std.specs.Prelude.{◌≡◌, ◌<◌, ◌≤◌};
-ghost use Rattle.makes.specs.Places.{status_start, status_end, begun as status-begun, closed as status-closed, is_make, is_stand, ordinal_of, targets_of, row_of, start_of, end_of, kind_begun, kind_declared, kind_closed, with_kind, one_more, one_less};
+ghost use Rattle.makes.specs.Places.{status_start, status_end, begun as status_begun, closed as status_closed, is_make, is_stand, ordinal_of, targets_of, row_of, start_of, end_of, kind_begun, kind_declared, kind_closed, with_kind, one_more, one_less};
 
 // How far a make has come, with the numbers at which it started and ended.
 #[derive(Clone, Copy)]
@@ -33,7 +33,7 @@ impl Status {
 
     // After the birth of a step: only the first one starts the make.
     fn begun(self, number: u32) -> Status
-        ensures answer { result ≡ status-begun number self }
+        ensures answer { result ≡ status_begun number self }
     {
         match self {
             Status::Unstarted => Status::Running { since: number },
@@ -43,7 +43,7 @@ impl Status {
 
     // After the last death.
     fn closed(self, number: u32) -> Status
-        ensures answer { result ≡ status-closed number self }
+        ensures answer { result ≡ status_closed number self }
     {
         match self {
             Status::Ended { .. } => self,

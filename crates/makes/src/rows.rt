@@ -1,7 +1,7 @@
 // The rows of prerequisites: for each target eight words, with a bit for each target that it needs, directly or through others.
 ghost use Rattle.std.specs.Prelude.{◌≡◌, ℕ, ◌+◌, ◌-◌, ◌*◌, ◌<◌, ◌≤◌, ◌++◌, map, length, vec_len, vec_capacity, slice_index};
 ghost use Rattle.makes.specs.Places.{all_declared, row_in};
-ghost use Rattle.makes.specs.Rows.{with_row, joined, joined_row, needs as is-needed};
+ghost use Rattle.makes.specs.Rows.{with_row, joined, joined_row, needs as is_needed};
 ghost use Rattle.makes.specs.Sound.{Ready};
 
 use crate::places::Place;
@@ -13,7 +13,7 @@ pub const WORDS: usize = 8;
 pub fn needs(rows: &[u64], t: usize, u: usize) -> bool
     requires within { t * 8 + 8 ≤ length rows.now }
     requires few { u < 512 }
-    ensures answer { result ≡ is-needed rows.now t u }
+    ensures answer { result ≡ is_needed rows.now t u }
 {
     (rows[t * WORDS + u / 64] >> (u % 64)) % 2 == 1
 }

@@ -1,6 +1,6 @@
 -- The worked rows of the make order, with answers worked out by hand from the rules. A place's number is its count among the places: 0 is the
 -- session, and each make, target and step has the next one.
-use Rattle.std.specs.Prelude.{ℕ, zero, suc, ◌+◌, Bool, true, false, List, [], ◌∷◌, ◌++◌, replicate}
+use Rattle.std.specs.Prelude.{ℕ, zero, suc, true, false, List, [], ◌∷◌, ◌++◌, replicate}
 use Rattle.order.specs.Events.{birth, make, target, death, post, await}
 use Rattle.makes.specs.declared.births.Birth.{Birth}
 use Rattle.makes.specs.declared.places.Kind.TheVariants.{Session}

@@ -1,11 +1,9 @@
 -- The worked rows, with answers worked out by hand from the rules.
-use Rattle.std.specs.Prelude.{ℕ, Bool, true, false, List, [], ◌∷◌, ◌++◌, replicate}
-use Rattle.order.specs.declared.Timestamp.{Timestamp}
+use Rattle.std.specs.Prelude.{true, false, List, [], ◌∷◌, ◌++◌, replicate}
 use Rattle.order.specs.Events.{birth, make, target, death, post, await}
-use Rattle.order.specs.Machine.{Machine}
 use Rattle.stages.specs.Machine.{stages, start}
 use Rattle.flags.specs.Machine.{flagged, new_flags}
-use Rattle.orders_shown.specs.Rows.{Ask, tell, stamp, lives, any_lives, known, before, Answer, taken, stamped, refused, truth, at, Row}
+use Rattle.orders_shown.specs.Rows.{tell, stamp, lives, any_lives, known, before, taken, stamped, refused, truth, at, Row}
 
 -- two processes of one stage: the post and the await order what the first did before the one and the second after the other
 abbrev pub two_ordered : Row

@@ -1,5 +1,5 @@
 -- The stage order over whole runs: the state tells the accepted calls.
-use Rattle.std.proofs.Common.{◌≡◌, ℕ, suc, ◌+◌, ◌-◌, ◌≤◌, Bool, true, false, cond, eqb, List, [], ◌∷◌, ◌++◌, map, reverse, length, get_or, IfOk, Some, None, Ok, Err, Decides, Option, Result, sym, refl, ap, ◌∙◌, subst, inl, inr, ⊎_elim, add-one, arith}
+use Rattle.std.proofs.Common.{◌≡◌, ℕ, suc, ◌+◌, ◌-◌, Bool, true, false, cond, eqb, List, [], ◌∷◌, ◌++◌, map, reverse, length, get_or, IfOk, Some, None, Ok, Err, Decides, Option, Result, sym, refl, ap, ◌∙◌, subst, inl, inr, ⊎_elim, add-one, arith}
 use Rattle.std.proofs.lemmas.List.{length-map, length_push, length-reverse, map_push, get_or-map}
 use Rattle.std.proofs.lemmas.Result.{IfOk-at_ok}
 use Rattle.std.proofs.lemmas.Bool.{eqb-true, eqb-false}
@@ -12,12 +12,12 @@ use Rattle.order.proofs.Runs.{ran_lives}
 use Rattle.order.specs.declared.Timestamp.{Timestamp}
 use Rattle.order.specs.Events.{Told, birth, make, target, death, post, await}
 use Rattle.order.specs.Machine.{Stamps}
-use Rattle.order.specs.Runs.{Call, tell, stamp, Ran, none, told, given, Bears, Alive}
+use Rattle.order.specs.Runs.{Call, tell, stamp, Ran, none, told, given, Alive}
 use Rattle.stages.specs.declared.births.Birth.{Birth}
 use Rattle.stages.specs.Births.{place_of, stage_at, ended}
 use Rattle.stages.specs.Machine.{Staged, stages, start, next, known_in, before_in, lives_in, birth_checks, death_checks, tell_stage, stamp_at}
 use Rattle.stages.specs.Runs.{SinceStart, births_in, stage_in, Placed, born, still, Known, Before}
-use Rattle.stages.specs.Law.{known_parts, known_from, before_parts, before_from, Ordered, stages_right}
+use Rattle.stages.specs.Law.{known_parts, known_from, before_parts, before_from, stages_right}
 use Rattle.stages.specs.Places.{place_ended}
 
 -- what a birth shows of itself for good

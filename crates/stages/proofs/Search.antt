@@ -1,5 +1,5 @@
 -- The search through the births, from the newest down: what one step of it tells.
-use Rattle.std.proofs.Common.{◌≡◌, ℕ, suc, ◌+◌, ◌-◌, ◌<◌, ◌≤◌, Bool, true, false, cond, ◌||◌, List, reverse, length, get_or, take, Some, sym, ap, ◌∙◌, add-one, arith}
+use Rattle.std.proofs.Common.{◌≡◌, ℕ, suc, ◌+◌, ◌-◌, ◌<◌, ◌≤◌, true, false, ◌||◌, List, reverse, length, get_or, take, Some, sym, ap, ◌∙◌, add-one, arith}
 use Rattle.std.proofs.lemmas.Bool.{cond-true, cond-false}
 use Rattle.order.proofs.Newest.{newest_more, length_newest}
 use Rattle.stages.specs.declared.births.Birth.{Birth}

@@ -1,12 +1,11 @@
 -- The stage order keeps the law of orders.
-use Rattle.std.specs.Prelude.{◌≡◌, ℕ, suc, ◌+◌, ◌-◌, ◌<◌, ◌≤◌, Bool, true, false, cond, not, ◌&&◌, ◌||◌, ◌⊎◌, List, [], ◌∷◌, ◌++◌, map, reverse, length, is_some, IfSome, is_ok, IfOk, Some, None, Ok, Err, Option, Result, ◌==◌, nat_le, nat_lt, refl}
+use Rattle.std.specs.Prelude.{◌≡◌, ℕ, ◌+◌, ◌-◌, ◌<◌, ◌≤◌, Bool, true, false, cond, ◌&&◌, ◌||◌, ◌⊎◌, List, [], ◌∷◌, ◌++◌, map, reverse, length, is_some, IfSome, is_ok, IfOk, Some, None, Ok, Option, ◌==◌, nat_le, nat_lt, refl}
 use Rattle.std.proofs.Common.{inl, inr, ⊎_elim, sym, ap, subst, ◌∙◌, arith}
 use Rattle.std.proofs.lemmas.List.{length-map, length_push, get_or_append_left, get_or-map, length-reverse}
 use Rattle.std.proofs.lemmas.Result.{IfOk-at_ok}
-use Rattle.std.proofs.lemmas.Bool.{false≢true, eqb-true, eq-eqb, ne_eqb, eqb-false, ltb-true, lt-ltb, leb-true, le-leb, and_from, and_parts, or_cases, or_left, or_right}
-use Rattle.std.proofs.lemmas.Bool.Decides.{nat_tests}
+use Rattle.std.proofs.lemmas.Bool.{eqb-true, eq-eqb, eqb-false, ltb-true, lt-ltb, leb-true, le-leb, and_from, and_parts, or_cases, or_left, or_right}
 use Rattle.std.specs.Result.{result_err}
-use Rattle.faults.specs.declared.OrderFault.TheVariants.{NotLive, LiveAlready, TableFull, UsedUp, Unfit}
+use Rattle.faults.specs.declared.OrderFault.TheVariants.{NotLive, UsedUp}
 use Rattle.order.proofs.Checks.{passing, refusing}
 use Rattle.order.proofs.Newest.{newest_push, newest_map}
 use Rattle.order.specs.declared.Timestamp.{Timestamp}
@@ -15,8 +14,8 @@ use Rattle.order.specs.Machine.{refused_if}
 use Rattle.order.specs.Meaning.{Lawful, Advanced, last_number}
 use Rattle.order.specs.Right.{Right, EventTaken, StampGiven}
 use Rattle.stages.specs.declared.births.Birth.{Birth}
-use Rattle.stages.specs.Births.{is_live, place_of, stage_at, ended}
-use Rattle.stages.specs.Machine.{Staged, stages, next, known_in, before_in, lives_in, birth_checks, death_checks, tell_stage, stamp_at}
+use Rattle.stages.specs.Births.{place_of, stage_at, ended}
+use Rattle.stages.specs.Machine.{Staged, stages, next, known_in, before_in, birth_checks, death_checks, tell_stage, stamp_at}
 use Rattle.stages.specs.Places.{some_cond, none_cond, place_within, place_ended, any_decides}
 
 -- what a known timestamp tells

@@ -1,11 +1,11 @@
 -- The stage order as a machine.
-use Rattle.std.specs.Prelude.{◌≡◌, ℕ, ◌+◌, ◌≤◌, min, Bool, true, not, ◌&&◌, ◌||◌, List, [], ◌∷◌, ◌++◌, map, reverse, length, is_some, Some, None, Ok, Err, Option, Result, ◌==◌, nat_le, nat_lt}
+use Rattle.std.specs.Prelude.{ℕ, ◌+◌, ◌≤◌, min, Bool, true, not, ◌&&◌, ◌||◌, List, [], ◌∷◌, ◌++◌, map, reverse, length, is_some, Some, None, Ok, Err, Option, Result, ◌==◌, nat_le, nat_lt}
 use Rattle.faults.specs.declared.OrderFault.{OrderFault}
 use Rattle.faults.specs.declared.OrderFault.TheVariants.{NotLive, LiveAlready, TableFull, UsedUp, Unfit}
 use Rattle.order.specs.declared.Timestamp.{Timestamp}
 use Rattle.order.specs.Events.{Told, birth, make, target, death, post, await}
 use Rattle.order.specs.Machine.{Machine, checked}
-use Rattle.order.specs.Meaning.{Meaning, last_number}
+use Rattle.order.specs.Meaning.{last_number}
 use Rattle.stages.specs.declared.births.Birth.{Birth}
 use Rattle.stages.specs.Births.{place_of, any_live, stage_at, ended}
 

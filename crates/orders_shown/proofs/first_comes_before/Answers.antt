@@ -12,4 +12,4 @@ session_answer : (s : Flagged Staged) → Ran (flagged stages) (new_flags (start
 session_answer s ran r is = is ∙ ap (λ t. ((flagged stages).means t).before (at 1 1) (at 4 2)) (ran_after (flagged stages) (new_flags (start 2)) ran)
 
 pub returns : goal.returns
-returns c = record { answer = session_answer _ c.in-ok-order.ensures.run c.before-yes.result c.before-yes.ensures.answer }
+returns c = record { answer = session_answer _ c.in_ok-order.ensures.run c.before-yes.result c.before-yes.ensures.answer }

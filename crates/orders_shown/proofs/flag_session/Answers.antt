@@ -6,14 +6,14 @@ use Rattle.order.specs.Runs.{Ran, none}
 use Rattle.stages.specs.Law.{stages_right}
 use Rattle.stages.specs.Machine.{stages, start}
 use Rattle.flags.specs.Law.{flagged_right, new_sound}
-use Rattle.flags.specs.Machine.{flagged, Flagged, new_flags}
+use Rattle.flags.specs.Machine.{flagged, new_flags}
 use Rattle.orders_shown.proofs.flag_session.Goals as goal
 
 pub returns : goal.returns
 returns c =
     let m : Machine = flagged stages in
     let s : m.State = new_flags (start 2) in
-    let new = c.in-ok-order.ensures.start ∙ ap new_flags c.in-ok-stages.ensures.start in
+    let new = c.in_ok-order.ensures.start ∙ ap new_flags c.in_ok-stages.ensures.start in
     let r = subst (Ran m s []) (sym new) none in
     let r1 = told_more m s (birth 10 0 1) r c.birth.ensures.value c.tell.ensures.answer c.unwrap.ensures in
     let r2 = told_more m s (birth 11 0 1) r1 c.birth-2.ensures.value c.tell-2.ensures.answer c.unwrap-2.ensures in

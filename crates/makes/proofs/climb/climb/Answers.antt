@@ -6,7 +6,7 @@ use Rattle.makes.specs.Walks.{climb_none, parent_less, second_more, first_more}
 use Rattle.makes.proofs.climb.climb.Goals as goal
 
 pub loop-x-init : goal.loop-x-init
-loop-x-init c = climb_none c.args.places.now c.requires.rooted c.requires.a-within c.requires.b-within
+loop-x-init c = climb_none c.args.places.now c.requires.rooted c.requires.a_within c.requires.b_within
 
 pub loop-x-smaller-then-x-y-2 : goal.loop-x-smaller-then-x-y-2
 loop-x-smaller-then-x-y-2 c =

@@ -10,7 +10,7 @@ pub loop-x-smaller : goal.loop-x-smaller
 loop-x-smaller c = walk_less one_more (λ p. refl) c.requires.rooted c.loop-x.invariant c.if-x-eq0.false
 
 pub loop-x-preserved : goal.loop-x-preserved
-loop-x-preserved c = walk_more one_more (λ p. refl) c.requires.rooted c.loop-x.invariant c.one-more.result c.one-more.ensures.answer c.if-x-eq0.false
+loop-x-preserved c = walk_more one_more (λ p. refl) c.requires.rooted c.loop-x.invariant c.one_more.result c.one_more.ensures.answer c.if-x-eq0.false
 
 pub returns : goal.returns
-returns c = record { after = walk_all one_more (λ p. refl) c.requires.rooted c.loop-x.invariant c.one-more.result c.one-more.ensures.answer c.if-x-eq0.true }
+returns c = record { after = walk_all one_more (λ p. refl) c.requires.rooted c.loop-x.invariant c.one_more.result c.one_more.ensures.answer c.if-x-eq0.true }

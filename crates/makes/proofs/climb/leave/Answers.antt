@@ -9,9 +9,9 @@ pub loop-x-smaller : goal.loop-x-smaller
 loop-x-smaller c = walk_less (one_less c.args.number) (less_shape c.args.number) c.requires.rooted c.loop-x.invariant c.if-x-eq0.false
 
 pub loop-x-preserved : goal.loop-x-preserved
-loop-x-preserved c = walk_more (one_less c.args.number) (less_shape c.args.number) c.requires.rooted c.loop-x.invariant c.one-less.result c.one-less.ensures.answer c.if-x-eq0.false
+loop-x-preserved c = walk_more (one_less c.args.number) (less_shape c.args.number) c.requires.rooted c.loop-x.invariant c.one_less.result c.one_less.ensures.answer c.if-x-eq0.false
 
 pub returns : goal.returns
 returns c = record {
-  after = walk_all (one_less c.args.number) (less_shape c.args.number) c.requires.rooted c.loop-x.invariant c.one-less.result c.one-less.ensures.answer c.if-x-eq0.true;
+  after = walk_all (one_less c.args.number) (less_shape c.args.number) c.requires.rooted c.loop-x.invariant c.one_less.result c.one_less.ensures.answer c.if-x-eq0.true;
 }

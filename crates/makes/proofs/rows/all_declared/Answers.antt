@@ -1,5 +1,5 @@
-use Rattle.std.proofs.Common.{◌≡◌, true, false, ◌&&◌, sym, ap, ◌∙◌, arith}
-use Rattle.std.proofs.lemmas.List.{at_drop_more, at_drop_all}
+use Rattle.std.proofs.Common.{sym, ◌∙◌, arith}
+use Rattle.std.proofs.lemmas.List.{at_drop_all}
 use Rattle.makes.specs.Places.{all_declared}
 use Rattle.makes.proofs.Declared.{declared_yes, declared_no}
 use Rattle.makes.proofs.rows.all_declared.Goals as goal

@@ -1,4 +1,4 @@
-use Rattle.std.proofs.Common.{false, sym, ◌∙◌}
+use Rattle.std.proofs.Common.{sym, ◌∙◌}
 use Rattle.order.proofs.Newest.{newest_none, newest_all}
 use Rattle.stages.specs.Births.{any_live}
 use Rattle.stages.proofs.Search.{any_found, any_passed}

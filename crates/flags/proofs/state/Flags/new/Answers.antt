@@ -1,5 +1,4 @@
-use Rattle.std.proofs.Common.{◌≡◌, rules}
-use Rattle.flags.specs.Machine.{Flagged, new_flags}
+use Rattle.std.proofs.Common.{rules}
 use Rattle.flags.specs.Law.{new_sound}
 use Rattle.flags.proofs.state.Flags.new.Goals as goal
 

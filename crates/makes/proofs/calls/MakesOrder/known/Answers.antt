@@ -7,7 +7,7 @@ use Rattle.makes.proofs.calls.MakesOrder.known.Goals as goal
 
 pub returns : goal.returns
 returns c = record {
-  answer = c.is-known.ensures.answer;
-  run = λ calls since. Decides-at _ _ c.is-known.ensures.answer (known_run calls (make_model c.args.self.now) since c.args.a);
+  answer = c.is_known.ensures.answer;
+  run = λ calls since. Decides-at _ _ c.is_known.ensures.answer (known_run calls (make_model c.args.self.now) since c.args.a);
   depth = depth_limits (make_model c.args.self.now) (sound_had c.args.self.now.sound);
 }

@@ -1,4 +1,4 @@
-use Rattle.std.proofs.Common.{sym, ap, ◌∙◌, subst, arith, rules}
+use Rattle.std.proofs.Common.{sym, subst, arith, rules}
 use Rattle.makes.specs.Machine.{born_at}
 use Rattle.makes.specs.Model.{make_model}
 use Rattle.makes.specs.Sound.{Sound}
@@ -17,8 +17,8 @@ bear-requires c =
           (search rules, (search rules, (search rules, (search rules, (search rules, tt))))) c.if-target-eq0.true);
     }
 
-pub bear-step-requires : goal.bear-step-requires
-bear-step-requires c =
+pub bear_step-requires : goal.bear_step-requires
+bear_step-requires c =
     let s = make_model c.args.self.now in
     let sound = sound_had c.args.self.now.sound in
     record {

@@ -1,5 +1,4 @@
 use Rattle.std.proofs.Common.{sym, ap, ◌∙◌, arith}
-use Rattle.makes.specs.Model.{make_model}
 use Rattle.makes.specs.Places.{is_make, row_of}
 use Rattle.makes.proofs.Once.{sound_had}
 use Rattle.makes.proofs.state.Makes.judge.Goals as goal
@@ -7,11 +6,11 @@ use Rattle.makes.proofs.state.Makes.judge.Goals as goal
 pub needs-requires : goal.needs-requires
 needs-requires c =
     let sound = sound_had c.args.self.now.sound in
-    let make = sym (c.if-is-make.ensures.answer ∙ ap is_make c.kind.ensures.answer) in
-    let left = c.requires.left-row make in
-    let right = c.requires.right-row make in
-    let earlier = c.row-earlier.ensures.answer ∙ ap row_of c.kind-then-is-make-2.ensures.answer in
-    let later = c.row-later.ensures.answer ∙ ap row_of c.kind-then-is-make.ensures.answer in
+    let make = sym (c.if-is_make.ensures.answer ∙ ap is_make c.kind.ensures.answer) in
+    let left = c.requires.left_row make in
+    let right = c.requires.right_row make in
+    let earlier = c.row-earlier.ensures.answer ∙ ap row_of c.kind-then-is_make-2.ensures.answer in
+    let later = c.row-later.ensures.answer ∙ ap row_of c.kind-then-is_make.ensures.answer in
     let whole = sound.rows.whole in
     let few = sound.room.targets in
     let most = sound.room.most_targets in

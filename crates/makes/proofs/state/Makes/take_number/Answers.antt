@@ -4,8 +4,10 @@ use Rattle.makes.specs.Deaths.{counted_sound}
 use Rattle.makes.proofs.Once.{sound_had}
 use Rattle.makes.proofs.state.Makes.take_number.Goals as goal
 
-pub invariant-of-self : goal.invariant-of-self
-invariant-of-self c = (
-  ∣ counted_sound (make_model c.args.self.now) (sound_had c.args.self.now.sound) (omega arith) ∣₁,
-  (c.args.self.now.births_reserved, (c.args.self.now.places_reserved, (c.args.self.now.rows_reserved, tt))),
-)
+pub invariant_of-self : goal.invariant_of-self
+invariant_of-self c = record {
+  sound = ∣ counted_sound (make_model c.args.self.now) (sound_had c.args.self.now.sound) (omega arith) ∣₁;
+  births_reserved = c.args.self.now.births_reserved;
+  places_reserved = c.args.self.now.places_reserved;
+  rows_reserved = c.args.self.now.rows_reserved;
+}

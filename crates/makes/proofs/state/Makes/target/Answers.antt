@@ -1,4 +1,4 @@
-use Rattle.std.proofs.Common.{sym, ap, ◌∙◌, arith, rules}
+use Rattle.std.proofs.Common.{sym, rules}
 use Rattle.makes.specs.Model.{make_model}
 use Rattle.makes.proofs.Once.{sound_had}
 use Rattle.makes.proofs.Taken.{target_kept}

@@ -5,6 +5,6 @@ use Rattle.stages.proofs.calls.StagesOrder.known.Goals as goal
 
 pub returns : goal.returns
 returns c = record {
-  answer = c.is-known.ensures.answer;
-  run = λ calls since. Decides-at _ _ c.is-known.ensures.answer (known_run calls (stage_model c.args.self.now) since c.args.a);
+  answer = c.is_known.ensures.answer;
+  run = λ calls since. Decides-at _ _ c.is_known.ensures.answer (known_run calls (stage_model c.args.self.now) since c.args.a);
 }
