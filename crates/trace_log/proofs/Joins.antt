@@ -5,7 +5,7 @@ use Rattle.std.proofs.ByRecursion.{All-push}
 use Rattle.std.proofs.lemmas.List.{length-append, nil_from_length, flat_map_more}
 use Rattle.std.proofs.lemmas.Bool.{eq-eqb}
 use Rattle.std.proofs.lemmas.Bool.Decides.{nat_tests}
-use Rattle.trace_log.specs.Item.{Item, target}
+use Rattle.trace_log.specs.Item.{target}
 use Rattle.trace_log.specs.Format.{big, body, Small}
 use Rattle.trace_log.specs.Decode.{by_letter, sized, field, pairs}
 use Rattle.trace_log.proofs.Numbers.{number_big, length_joined}
