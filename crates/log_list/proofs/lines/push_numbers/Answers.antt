@@ -1,4 +1,4 @@
-use Rattle.std.proofs.Common.{◌∷◌, ◌++◌, vec_items, decimal, sym, ap, ◌∙◌}
+use Rattle.std.proofs.Common.{◌∷◌, ◌++◌, vec_items, decimal, ap, ◌∙◌}
 use Rattle.log_list.proofs.Texts.{written_more, written_all, fields_joined}
 use Rattle.log_list.proofs.lines.push_numbers.Goals as goal
 
