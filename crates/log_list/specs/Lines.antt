@@ -1,6 +1,6 @@
 -- The text that a log is listed as.
 use Rattle.std.specs.Prelude.{◌≡◌, ℕ, ◌+◌, ◌/◌, ◌%◌, cond, ◌||◌, List, [], ◌∷◌, ◌++◌, length, Some, None, decimal, Option, ◌==◌, nat_lt}
-use Rattle.std.specs.List.{flat_map, AllByRecursion as All}
+use Rattle.std.specs.List.{flat_map, AllByRecursion}
 use Rattle.faults.specs.Numbers.{reader_number}
 use Rattle.trace_log.specs.Item.{Item, birth, make, target, death, read, write, exists, removal, post, await}
 use Rattle.trace_log.specs.Format.{log_of, Writable}
@@ -91,4 +91,4 @@ Lists log text = (rs : List RecordAt) × ((stop : Option Stop) × (ReadsLog log 
 
 -- of a log that is written with some records, the text lists these records, each at its place
 abbrev pub ListsWritten : List ℕ → List ℕ → Type 0
-ListsWritten log text = (is : List Item) → All Writable is → log ≡ log_of is → text ≡ listing (placed 1 is) None
+ListsWritten log text = (is : List Item) → AllByRecursion Writable is → log ≡ log_of is → text ≡ listing (placed 1 is) None

@@ -4,7 +4,7 @@ ghost use Rattle.std.specs.Option.{option_map};
 ghost use Rattle.std.specs.List.{flat_map};
 ghost use Rattle.trace_log.specs.Item.{item};
 ghost use Rattle.trace_log.specs.Whole.{record_of, stop_of};
-ghost use Rattle.log_list.specs.Lines.{hex as hex-of, head as head_of, shown_byte, shown_path, fields, tail, line, last_line, refusal_line, Lists, ListsWritten};
+ghost use Rattle.log_list.specs.Lines.{hex as hex_of, head as head_of, shown_byte, shown_path, fields, tail, line, last_line, refusal_line, Lists, ListsWritten};
 
 use std::alloc::{AllocError, Global};
 use trace_log::contents::{Placed, Refusal, read_all};
@@ -13,7 +13,7 @@ use trace_log::record::Record;
 // A digit in base sixteen.
 fn hex(digit: u8) -> u8
     requires { digit < 16 }
-    ensures { result ≡ hex-of digit }
+    ensures { result ≡ hex_of digit }
 {
     if digit < 10 {
         b'0' + digit

@@ -1,11 +1,11 @@
 -- A record at the front of some bytes.
-use Rattle.std.proofs.Common.{◌≡◌, ℕ, ◌+◌, ◌*◌, ◌/◌, ◌%◌, ◌^◌, ◌<◌, ◌⊎◌, List, [], ◌∷◌, ◌++◌, length, Some, None, Ok, Err, Option, Result, sym, refl, ap, ◌∙◌, subst, inl, inr, arith}
+use Rattle.std.proofs.Common.{◌≡◌, ℕ, ◌+◌, ◌*◌, ◌/◌, ◌%◌, ◌^◌, ◌<◌, ◌⊎◌, List, ◌∷◌, ◌++◌, length, Some, None, Ok, Err, Option, Result, sym, ap, ◌∙◌, inl, inr, arith}
 use Rattle.faults.specs.declared.ReaderFault.{ReaderFault}
 use Rattle.trace_log.specs.declared.record.Record.{Record}
-use Rattle.trace_log.specs.Item.{Item, item, target}
+use Rattle.trace_log.specs.Item.{Item, item}
 use Rattle.trace_log.specs.Format.{big, body, encode, Small, Writable}
-use Rattle.trace_log.specs.Decode.{Front, end, got, refused, decode, framed, parsed, by_letter}
-use Rattle.trace_log.specs.Reading.{Starved, Refuses, Next, Stood, HandsOut, Returned}
+use Rattle.trace_log.specs.Decode.{end, got, refused, decode, framed, parsed, by_letter}
+use Rattle.trace_log.specs.Reading.{Starved, Refuses, Next, Returned}
 use Rattle.trace_log.proofs.Trip.{open_frame, decode_encode}
 
 -- a frame: two bytes for its length, then that many bytes

@@ -1,11 +1,11 @@
 -- Bytes put together from their parts.
 use Rattle.std.proofs.Common.{◌≡◌, ℕ, ◌+◌, ◌*◌, ◌%◌, ◌^◌, ◌<◌, ◌≤◌, cond, eqb, List, [], ◌∷◌, ◌++◌, length, Ok, sym, refl, ap, ◌∙◌, subst, append_assoc, append-nil, arith}
-use Rattle.std.specs.List.{flat_map, AllByRecursion as All}
+use Rattle.std.specs.List.{flat_map, AllByRecursion}
 use Rattle.std.proofs.ByRecursion.{All-push}
 use Rattle.std.proofs.lemmas.List.{length-append, nil_from_length, flat_map_more}
 use Rattle.std.proofs.lemmas.Bool.{eq-eqb}
 use Rattle.std.proofs.lemmas.Bool.Decides.{nat_tests}
-use Rattle.trace_log.specs.Item.{Item, target}
+use Rattle.trace_log.specs.Item.{target}
 use Rattle.trace_log.specs.Format.{big, body, Small}
 use Rattle.trace_log.specs.Decode.{by_letter, sized, field, pairs}
 use Rattle.trace_log.proofs.Numbers.{number_big, length_joined}
@@ -23,7 +23,7 @@ whole bs a r e h =
 -- the numbers of the pairs of bytes so far, and the bytes that are left
 pub record Paired (bs xs left : List ℕ) : Type 0 where
   pub split : bs ≡ flat_map (big 2) xs ++ left
-  pub small : All (λ x. x < 2 ^ 16) xs
+  pub small : AllByRecursion (λ x. x < 2 ^ 16) xs
 
 pub paired_more : {bs xs left : List ℕ} (rest ys : List ℕ) (n : ℕ) → Paired bs xs left → left ≡ big 2 n ++ rest → n < 2 ^ 16 → ys ≡ xs ++ n ∷ [] → Paired bs ys rest
 paired_more {bs} {xs} {left} rest ys n h e s is =
@@ -49,7 +49,7 @@ some_pair (a ∷ b ∷ bs) h = (a * 256 + b, (pairs bs, refl))
 
 -- a target's bytes: process, count, and as many numbers
 module _ (fs r rest : List ℕ) (p n : ℕ) (e : fs ≡ big 4 p ++ r) (f : r ≡ big 1 n ++ rest) (long : length rest ≡ 2 * n) (few : n < 2 ^ 8) where
-  pub target_body : (ts : List ℕ) → rest ≡ flat_map (big 2) ts → All (λ t. t < 2 ^ 16) ts → p < 2 ^ 32 → ((84 ∷ fs) ≡ body (target p ts)) × Small (target p ts)
+  pub target_body : (ts : List ℕ) → rest ≡ flat_map (big 2) ts → AllByRecursion (λ t. t < 2 ^ 16) ts → p < 2 ^ 32 → ((84 ∷ fs) ≡ body (target p ts)) × Small (target p ts)
   target_body ts is small s =
       let same : n ≡ length ts = omega (arith, ap length is, length_joined ts) in
       let count : r ≡ big 1 (length ts) ++ flat_map (big 2) ts = f ∙ (λ i. big 1 (same i) ++ is i) in

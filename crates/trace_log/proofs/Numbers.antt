@@ -1,7 +1,7 @@
 -- Numbers and their bytes.
 use Rattle.std.proofs.Common.{◌≡◌, ℕ, zero, suc, ◌+◌, ◌-◌, ◌*◌, ◌/◌, ◌%◌, ◌^◌, ◌<◌, ◌≤◌, List, [], ◌∷◌, ◌++◌, length, get_or, take, drop, sym, refl, ap, ◌∙◌, subst, append_assoc, append-nil, pow-suc, zero-add, arith, w8, Fits}
 use Rattle.std.specs.Int.Digits.{number_from_digits, number_from_digits_after, AllBelowBase}
-use Rattle.std.specs.List.{flat_map, AllByRecursion as All}
+use Rattle.std.specs.List.{flat_map, AllByRecursion}
 use Rattle.std.proofs.lemmas.Int.Digits.{number_push, number_more}
 use Rattle.std.proofs.ByRecursion.{All-take, All-from_get_or}
 use Rattle.std.proofs.lemmas.List.{length-take-le, take-append-drop, take_rest}
@@ -38,7 +38,7 @@ front_big k bs v long bytes e =
     sym (take-append-drop k bs) ∙ (λ i. front i ++ sym (take_rest bs k) i)
 
 -- the bytes of 16-bit numbers, two and two, say those numbers
-pub pairs_joined : (ts : List ℕ) → All (λ t. t < 2 ^ 16) ts → pairs (flat_map (big 2) ts) ≡ ts
+pub pairs_joined : (ts : List ℕ) → AllByRecursion (λ t. t < 2 ^ 16) ts → pairs (flat_map (big 2) ts) ≡ ts
 pairs_joined [] small = refl
 pairs_joined (t ∷ ts) small =
     let h = small.0 in

@@ -1,12 +1,11 @@
 -- Reading what was written.
-use Rattle.std.proofs.Common.{◌≡◌, ℕ, ◌+◌, ◌*◌, ◌/◌, ◌%◌, ◌^◌, ◌<◌, ◌≤◌, Bool, true, false, cond, ◌&&◌, eqb, ltb, leb, List, [], ◌∷◌, ◌++◌, length, take, drop, Ok, Err, sym, refl, ap, ◌∙◌, subst, arith}
+use Rattle.std.proofs.Common.{◌≡◌, ℕ, ◌≤◌, Bool, true, false, cond, ltb, List, ◌++◌, length, take, drop, sym, refl, ap, ◌∙◌, arith}
 use Rattle.std.proofs.lemmas.List.{length-append, take_at, drop_at}
 use Rattle.std.proofs.lemmas.Bool.{le-leb, eq-eqb, le-ltb, cond-false, and_from, false≢true}
-use Rattle.std.specs.List.{flat_map, AllByRecursion as All}
 use Rattle.faults.specs.declared.ReaderFault.TheVariants.{Cut}
 use Rattle.trace_log.specs.Item.{Item, birth, make, target, death, read, write, exists, removal, post, await}
-use Rattle.trace_log.specs.Format.{big, body, encode, Small, Writable}
-use Rattle.trace_log.specs.Decode.{decode, framed, parsed, sized, got, refused, pairs, field}
+use Rattle.trace_log.specs.Format.{body, encode, Small, Writable}
+use Rattle.trace_log.specs.Decode.{decode, framed, parsed, sized, got, refused}
 use Rattle.trace_log.proofs.Numbers.{number_big, pairs_joined, length_joined}
 
 -- a record whose length fits is handed out

@@ -1,6 +1,6 @@
 -- A whole log, record by record.
 use Rattle.std.proofs.Common.{◌≡◌, ℕ, suc, ◌+◌, ◌-◌, ◌*◌, Bool, true, false, cond, ltb, List, [], ◌∷◌, ◌++◌, map, length, take, drop, IfOk, Some, None, Ok, Err, vec_items, Option, Result, Vec, sym, refl, ap, ◌∙◌, subst, inl, inr, append_assoc, append-nil, arith}
-use Rattle.std.specs.List.{flat_map, AllByRecursion as All}
+use Rattle.std.specs.List.{flat_map, AllByRecursion}
 use Rattle.std.proofs.ByRecursion.{All-push}
 use Rattle.std.proofs.lemmas.List.{length-append, map_push, flat_map_more}
 use Rattle.faults.specs.declared.ReaderFault.{ReaderFault}
@@ -42,7 +42,7 @@ end_nil (a ∷ []) e = absurd (subst Goes e tt)
 end_nil (a ∷ b ∷ bs) e = absurd (subst Goes e (cut_goes (ltb (length bs) (a * 256 + b)) _ (framed_goes (take (a * 256 + b) bs) (drop (a * 256 + b) bs))))
 
 -- the records that are read are those that were written, each at its place
-reads_written : (is : List Item) (place : ℕ) {size : ℕ} {bs : List ℕ} {xs : List RecordAt} {e : Option Stop} → All Writable is → bs ≡ flat_map encode is → place + length bs ≡ size → Reads size bs xs e → (xs ≡ placed place is) × (e ≡ None)
+reads_written : (is : List Item) (place : ℕ) {size : ℕ} {bs : List ℕ} {xs : List RecordAt} {e : Option Stop} → AllByRecursion Writable is → bs ≡ flat_map encode is → place + length bs ≡ size → Reads size bs xs e → (xs ≡ placed place is) × (e ≡ None)
 reads_written [] place w is at (ends d) = (refl, refl)
 reads_written [] place w is at (stops f d) = absurd (subst Goes (sym d ∙ ap decode is) tt)
 reads_written [] place w is at (goes_on i rest d h) = absurd (subst Goes (sym d ∙ ap decode is) tt)
@@ -60,7 +60,7 @@ reads_written (i ∷ more) place {size} {bs} w is at (goes_on j rest d h) =
     let others = reads_written more (place + length (encode i)) w.1 after there h in
     ((λ k. record { place = here k; says = first k } ∷ others.0 k), others.1)
 
-pub log_written : {log : List ℕ} {xs : List RecordAt} {e : Option Stop} → ReadsLog log xs e → (is : List Item) → All Writable is → log ≡ log_of is → (xs ≡ placed 1 is) × (e ≡ None)
+pub log_written : {log : List ℕ} {xs : List RecordAt} {e : Option Stop} → ReadsLog log xs e → (is : List Item) → AllByRecursion Writable is → log ≡ log_of is → (xs ≡ placed 1 is) × (e ≡ None)
 log_written (opened {bs} h) is w e = reads_written is 1 w (cc) (omega arith) h
 log_written (unopened other) is w e = absurd (other (flat_map encode is) e)
 
@@ -76,7 +76,7 @@ items_push xs p = ap (map (λ x. x.says)) (map_push record_of xs p) ∙ map_push
 -- the records so far of a log, and the bytes that are left of it
 pub record Sofar (log : List ℕ) (xs : List Placed) (size : ℕ) (left : List ℕ) : Type 0 where
   pub written : log ≡ 1 ∷ (flat_map encode (items xs) ++ left)
-  pub small : All Writable (items xs)
+  pub small : AllByRecursion Writable (items xs)
   pub on : (ys : List RecordAt) (e : Option Stop) → Reads size left ys e → ReadsLog log (map record_of xs ++ ys) e
 
 pub none_yet : (log left : List ℕ) (size : ℕ) (xs : List Placed) → xs ≡ [] → log ≡ 1 ∷ left → size ≡ length log → Sofar log xs size left
@@ -90,7 +90,7 @@ module _ {log : List ℕ} {xs : List Placed} {size : ℕ} {left : List ℕ} (so 
   one_more p ps there at d stood w is =
       subst (λ zs. Sofar log zs size there) (sym is) (record {
         written = so.written ∙ ap (λ l. 1 ∷ l) (ap (λ l. flat_map encode (items xs) ++ l) stood ∙ sym (append_assoc (flat_map encode (items xs)) (encode (says p)) there) ∙ ap (λ l. l ++ there) (flat_map_more encode [] (items xs) (says p) ∙ ap (flat_map encode) (sym (items_push xs p))));
-        small = subst (All Writable) (sym (items_push xs p)) (All-push Writable (items xs) (says p) so.small w);
+        small = subst (AllByRecursion Writable) (sym (items_push xs p)) (All-push Writable (items xs) (says p) so.small w);
         on = λ ys e h.
             let same : map record_of xs ++ (record { place = size - length left; says = says p } ∷ ys) ≡ map record_of (xs ++ p ∷ []) ++ ys =
             (λ k. map record_of xs ++ (record { place = sym at k; says = says p } ∷ ys)) ∙ sym (append_assoc (map record_of xs) (record_of p ∷ []) ys) ∙ ap (λ l. l ++ ys) (sym (map_push record_of xs p))

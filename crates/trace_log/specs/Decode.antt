@@ -1,8 +1,8 @@
 -- What bytes say to a reader, refusals included.
-use Rattle.std.specs.Prelude.{ℕ, zero, suc, ◌+◌, ◌-◌, ◌*◌, Bool, true, false, cond, ◌&&◌, List, [], ◌∷◌, length, take, drop, Some, None, Ok, Err, Option, Result, ◌==◌, nat_le, nat_lt}
+use Rattle.std.specs.Prelude.{ℕ, ◌+◌, ◌*◌, Bool, true, false, cond, ◌&&◌, List, [], ◌∷◌, length, take, drop, Ok, Err, Result, ◌==◌, nat_le, nat_lt}
 use Rattle.std.specs.Int.Digits.{number_from_digits}
 use Rattle.faults.specs.declared.ReaderFault.{ReaderFault}
-use Rattle.faults.specs.declared.ReaderFault.TheVariants.{BadVersion, Cut, UnknownLetter, BadLength}
+use Rattle.faults.specs.declared.ReaderFault.TheVariants.{Cut, UnknownLetter, BadLength}
 use Rattle.trace_log.specs.Item.{Item, birth, make, target, death, read, write, exists, removal, post, await}
 
 -- the number in the k bytes at a place, the most significant first

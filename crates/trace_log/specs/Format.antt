@@ -1,6 +1,6 @@
 -- How a log is written.
-use Rattle.std.specs.Prelude.{ℕ, zero, suc, ◌+◌, ◌/◌, ◌%◌, ◌^◌, ◌<◌, cond, List, [], ◌∷◌, ◌++◌, length}
-use Rattle.std.specs.List.{flat_map, AllByRecursion as All}
+use Rattle.std.specs.Prelude.{ℕ, zero, suc, ◌/◌, ◌%◌, ◌^◌, ◌<◌, cond, List, [], ◌∷◌, ◌++◌, length}
+use Rattle.std.specs.List.{flat_map, AllByRecursion}
 use Rattle.trace_log.specs.Item.{Item, birth, make, target, death, read, write, exists, removal, post, await}
 
 -- n in k bytes, the most significant first
@@ -33,7 +33,7 @@ log_of items = 1 ∷ flat_map encode items
 abbrev pub Small : Item → Type 0
 Small (birth p q t) = (p < 2 ^ 32) × (q < 2 ^ 32) × (t < 2 ^ 16)
 Small (make p) = p < 2 ^ 32
-Small (target p ts) = (p < 2 ^ 32) × (length ts < 2 ^ 8) × All (λ t. t < 2 ^ 16) ts
+Small (target p ts) = (p < 2 ^ 32) × (length ts < 2 ^ 8) × AllByRecursion (λ t. t < 2 ^ 16) ts
 Small (death p) = p < 2 ^ 32
 Small (read p d i path) = (p < 2 ^ 32) × (d < 2 ^ 32) × (i < 2 ^ 64)
 Small (write p d i path) = (p < 2 ^ 32) × (d < 2 ^ 32) × (i < 2 ^ 64)

@@ -1,5 +1,5 @@
 -- What the reader answers.
-use Rattle.std.specs.Prelude.{◌≡◌, ℕ, suc, ◌-◌, ◌⊎◌, List, [], ◌∷◌, ◌++◌, length, Some, None, Ok, Err, Option, Result, ◌≢◌}
+use Rattle.std.specs.Prelude.{◌≡◌, ℕ, ◌⊎◌, List, [], ◌∷◌, ◌++◌, length, Some, None, Ok, Err, Option, Result, ◌≢◌}
 use Rattle.faults.specs.declared.EntryFault.TheVariants.{NoMemory}
 use Rattle.faults.specs.declared.ReaderFault.{ReaderFault}
 use Rattle.faults.specs.declared.ReaderFault.TheVariants.{Entry, BadVersion}

@@ -3,7 +3,7 @@ use Rattle.std.specs.Prelude.{◌≡◌, ℕ, suc, ◌+◌, ◌-◌, List, [], �
 use Rattle.std.specs.Option.{option_map}
 use Rattle.std.specs.declared.alloc.AllocError.{AllocError}
 use Rattle.std.specs.declared.alloc.Global.{Global}
-use Rattle.std.specs.List.{AllByRecursion as All}
+use Rattle.std.specs.List.{AllByRecursion}
 use Rattle.faults.specs.declared.EntryFault.{EntryFault}
 use Rattle.faults.specs.declared.ReaderFault.{ReaderFault}
 use Rattle.faults.specs.declared.ReaderFault.TheVariants.{Entry, BadVersion}
@@ -53,7 +53,7 @@ items_of c = map (λ x. x.says) (records_of c)
 
 -- a log that is read to its end is written with the records that were read
 abbrev pub StoodAll : List ℕ → Contents → Type 0
-StoodAll log c = refusal_of c ≡ None → (log ≡ log_of (items_of c)) × All Writable (items_of c)
+StoodAll log c = refusal_of c ≡ None → (log ≡ log_of (items_of c)) × AllByRecursion Writable (items_of c)
 
 -- records one after the other, from a place on
 abbrev pub placed : ℕ → List Item → List RecordAt
@@ -62,7 +62,7 @@ placed place (i ∷ is) = record { place = place; says = i } ∷ placed (place +
 
 -- the records that a log is written with are read, each at its place, to its end
 abbrev pub ReturnedAll : List ℕ → Contents → Type 0
-ReturnedAll log c = (is : List Item) → All Writable is → log ≡ log_of is → (records_of c ≡ placed 1 is) × (refusal_of c ≡ None)
+ReturnedAll log c = (is : List Item) → AllByRecursion Writable is → log ≡ log_of is → (records_of c ≡ placed 1 is) × (refusal_of c ≡ None)
 
 -- what was read before a refusal, with it; no memory is no refusal
 abbrev pub Stopped : Vec Placed Global → ℕ → ReaderFault → Result Contents AllocError → Type 0

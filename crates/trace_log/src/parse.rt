@@ -1,6 +1,6 @@
 // One record from its letter and the bytes that follow the letter.
 ghost use Rattle.std.specs.Prelude.{◌≡◌, ◌%◌, ◌^◌, ◌<◌, ◌≤◌, ◌++◌, length, MatchResult};
-ghost use Rattle.std.specs.List.{flat_map, AllByRecursion as All};
+ghost use Rattle.std.specs.List.{flat_map, AllByRecursion};
 ghost use Rattle.trace_log.specs.Format.{big};
 ghost use Rattle.trace_log.specs.Reading.{Parses};
 
@@ -79,7 +79,7 @@ fn make(fields: &[u8]) -> Result<Record<'_>, ReaderFault>
 // The numbers in pairs of bytes.
 fn numbers(heap: Global, bytes: &[u8]) -> Result<Vec<u16>, AllocError>
     requires { length bytes.now % 2 ≡ 0 }
-    ensures { MatchResult result (λ v. (bytes.now ≡ flat_map (big 2) v.items) × All (λ t. t < 2 ^ 16) v.items) (λ _. 2 ≤ length bytes.now) }
+    ensures { MatchResult result (λ v. (bytes.now ≡ flat_map (big 2) v.items) × AllByRecursion (λ t. t < 2 ^ 16) v.items) (λ _. 2 ≤ length bytes.now) }
 {
     let mut all = Vec::new(heap);
     let mut left = bytes;

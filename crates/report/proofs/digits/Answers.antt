@@ -1,13 +1,13 @@
-use Rattle.std.proofs.Common.{◌^◌, ◌<◌, ◌≤◌, length, decimal, arith, Fits}
-use Rattle.std.proofs.lemmas.Fmt.{decimal_digit, decimal_nonempty, length-decimal-le}
+use Rattle.std.proofs.Common.{◌≤◌, length, decimal, arith}
+use Rattle.std.proofs.lemmas.Fmt.{decimal_nonempty, length-decimal-le}
 use Rattle.report.proofs.Puts.{length_step}
 use Rattle.report.proofs.digits.Goals as goal
 
 pub loop-left-init : goal.loop-left-init
 loop-left-init c = omega arith
 
-pub overflow-add-count : goal.overflow-add-count
-overflow-add-count c =
+pub overflow_add-count : goal.overflow_add-count
+overflow_add-count c =
     let small = c.ranges.n.fits in
     let few : length (decimal c.args.n) ≤ 20 = length-decimal-le 20 c.args.n (omega arith) (omega arith) small in
     record { fits = omega (arith, c.loop-left.invariant.1) }

@@ -4,4 +4,4 @@ use Rattle.log_list.proofs.lines.push_line.Goals as goal
 
 pub returns : goal.returns
 returns c =
-    three _ _ _ _ _ _ _ c.in-ok-extend-from-slice.ensures.items (c.as-bytes.ensures.value ∙ c.in-ok-text.ensures) c.in-ok-push-tail.ensures c.in-ok-push.ensures.items
+    three _ _ _ _ _ _ _ c.in_ok-extend_from_slice.ensures.items (c.as_bytes.ensures.value ∙ c.in_ok-text.ensures) c.in_ok-push_tail.ensures c.in_ok-push.ensures.items

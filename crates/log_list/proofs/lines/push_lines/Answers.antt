@@ -7,7 +7,7 @@ use Rattle.log_list.proofs.lines.push_lines.Goals as goal
 pub loop-placed-preserved : goal.loop-placed-preserved
 loop-placed-preserved c =
     written_more (λ p. line (record_of p)) (vec_items c.args.out.now) _ _ c.args.records.now c.loop-placed.placed-index c.placed-item.result c.loop-placed-test.true c.loop-placed.invariant
-    (c.in-ok-push-line.ensures ∙ ap (λ p. vec_items c.loop-placed.out ++ line (record_of p)) c.placed-item.is)
+    (c.in_ok-push_line.ensures ∙ ap (λ p. vec_items c.loop-placed.out ++ line (record_of p)) c.placed-item.is)
 
 pub returns : goal.returns
 returns c =

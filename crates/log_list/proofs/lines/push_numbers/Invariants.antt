@@ -1,6 +1,5 @@
 use Rattle.std.proofs.Common.{◌≡◌, ◌∷◌, ◌++◌, take, vec_items, decimal}
 use Rattle.std.specs.List.{flat_map}
-use Rattle.log_list.specs.Lines.{shown_byte}
 use Rattle.log_list.proofs.lines.push_numbers.Given as goal
 
 abbrev pub invariant-loop-n : goal.invariant-loop-n

@@ -1,4 +1,4 @@
-use Rattle.std.proofs.Common.{◌≡◌, ◌∷◌, ◌++◌, take, vec_items, decimal}
+use Rattle.std.proofs.Common.{◌≡◌, ◌++◌, take, vec_items}
 use Rattle.std.specs.List.{flat_map}
 use Rattle.log_list.specs.Lines.{shown_byte}
 use Rattle.log_list.proofs.lines.push_path.Given as goal

@@ -17,7 +17,7 @@ pub loop-found-init : goal.loop-found-init
 loop-found-init c = none_yet _ _ _ _ c.new-records.ensures.items c.in-Ok.ensures.0 c.in-Ok.ensures.1
 
 -- the record that was handed out stood there
-stood : (c : goal.In-ok-push) → Stood c.loop-found.reader.left.now c.next.new.self.left.now (Ok (Some c.in-Some.record))
+stood : (c : goal.In_ok-push) → Stood c.loop-found.reader.left.now c.next.new.self.left.now (Ok (Some c.in-Some.record))
 stood c = subst (λ o. Stood c.loop-found.reader.left.now c.next.new.self.left.now (Ok o)) c.in-Some.is c.in-Ok-next.ensures.stood
 
 pub loop-found-smaller : goal.loop-found-smaller
@@ -28,11 +28,11 @@ loop-found-preserved c =
     let says = subst (λ o. Next c.loop-found.reader.left.now c.next.new.self.left.now (Ok o)) c.in-Some.is c.in-Ok-next.ensures.answer in
     let told = c.in-Ok-next.ensures in
     subst (λ n. Sofar c.args.log.now (vec_items c.push.new.self) n c.next.new.self.left.now) (sym told.size)
-    (one_more c.loop-found.invariant _ _ _ c.place-place.ensures says (stood c).0 (stood c).1 c.in-ok-push.ensures.items)
+    (one_more c.loop-found.invariant _ _ _ c.place-place.ensures says (stood c).0 (stood c).1 c.in_ok-push.ensures.items)
 
-pub returns-in-default : goal.returns-in-default
-returns-in-default c =
-    let said = subst (λ o. Next c.loop-found.reader.left.now c.next.new.self.left.now (Ok o)) c.in-default.is c.in-Ok-next.ensures.answer in
+pub returns-in_default : goal.returns-in_default
+returns-in_default c =
+    let said = subst (λ o. Next c.loop-found.reader.left.now c.next.new.self.left.now (Ok o)) c.in_default.is c.in-Ok-next.ensures.answer in
     let reads = at_end c.loop-found.invariant said.0 in
     record { reads = reads; stood = λ _. (all_written c.loop-found.invariant said.0, c.loop-found.invariant.small); returned = log_written reads }
 

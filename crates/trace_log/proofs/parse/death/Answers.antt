@@ -4,4 +4,4 @@ use Rattle.trace_log.proofs.Joins.{whole}
 use Rattle.trace_log.proofs.parse.death.Goals as goal
 
 pub returns : goal.returns
-returns c = (ap (λ xs. 68 ∷ xs) (whole _ (big 4 c.u32-field-process.result.0) _ c.u32-field-process.ensures (omega arith)), search rules)
+returns c = (ap (λ xs. 68 ∷ xs) (whole _ (big 4 c.u32_field-process.result.0) _ c.u32_field-process.ensures (omega arith)), search rules)

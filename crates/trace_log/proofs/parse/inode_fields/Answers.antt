@@ -4,4 +4,4 @@ use Rattle.trace_log.proofs.parse.inode_fields.Goals as goal
 
 pub returns : goal.returns
 returns c =
-    then (big 4 c.u32-field-process.result.0) _ c.u32-field-process.ensures (then (big 4 c.u32-field-device.result.0) _ c.u32-field-device.ensures c.u64-field-inode.ensures)
+    then (big 4 c.u32_field-process.result.0) _ c.u32_field-process.ensures (then (big 4 c.u32_field-device.result.0) _ c.u32_field-device.ensures c.u64_field-inode.ensures)

@@ -7,11 +7,11 @@ pub loop-left-init : goal.loop-left-init
 loop-left-init c = subst (λ xs. Paired c.args.bytes.now xs c.args.bytes.now) (sym c.new-all.ensures.items) (record { split = refl; small = tt })
 
 pub loop-left-preserved : goal.loop-left-preserved
-loop-left-preserved c = paired_more _ _ _ c.loop-left.invariant c.u16-field-n.ensures (search rules) c.in-ok-push.ensures.items
+loop-left-preserved c = paired_more _ _ _ c.loop-left.invariant c.u16_field-n.ensures (search rules) c.in_ok-push.ensures.items
 
-pub returns-in-err-push : goal.returns-in-err-push
-returns-in-err-push c =
-    let p = err_from_is_err_and c.from-residual.result c.from-residual.ensures.1 in
+pub returns-in_err-push : goal.returns-in_err-push
+returns-in_err-push c =
+    let p = err_from_is_err_and c.from_residual.result c.from_residual.ensures.1 in
     rw p.1 (longer c.loop-left.invariant c.loop-left-test.true)
 
 pub returns : goal.returns
