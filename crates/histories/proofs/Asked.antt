@@ -2,7 +2,7 @@
 use Rattle.std.proofs.Common.{◌≡◌, ℕ, suc, Bool, true, false, cond, eqb, ◌⊎◌, List, [], ◌∷◌, reverse, length, Some, None, Option, refl, subst, inl, inr, arith}
 use Rattle.std.proofs.ByRecursion.{all-has}
 use Rattle.std.proofs.lemmas.Bool.{cond_both, eqb-true, eqb-false}
-use Rattle.std.specs.List.{ContainsAt as Has, AllByRecursion as All}
+use Rattle.std.specs.List.{ContainsAt as Has, AllByRecursion}
 use Rattle.std.specs.Option.{option_to_list}
 use Rattle.order.specs.declared.Timestamp.{Timestamp}
 use Rattle.histories.specs.Histories.{Kept, asked, first_failing}
@@ -32,11 +32,11 @@ some_has (Some y) x h = all-has (λ z. Some y ≡ Some z) (y ∷ []) x (refl, tt
 
 -- what comes of each answer
 module _ (before : Timestamp → Timestamp → Bool) (x : Timestamp) where
-  pub all_passed : (ts : List Timestamp) → first_failing before ts x ≡ None → All (λ t. before t x ≡ true) ts
+  pub all_passed : (ts : List Timestamp) → first_failing before ts x ≡ None → AllByRecursion (λ t. before t x ≡ true) ts
   all_passed [] e = tt
   all_passed (t ∷ ts) e = go (before t x) refl e (all_passed ts)
     where
-      go : (b : Bool) → before t x ≡ b → cond b (first_failing before ts x) (Some t) ≡ None → (first_failing before ts x ≡ None → All (λ u. before u x ≡ true) ts) → All (λ u. before u x ≡ true) (t ∷ ts)
+      go : (b : Bool) → before t x ≡ b → cond b (first_failing before ts x) (Some t) ≡ None → (first_failing before ts x ≡ None → AllByRecursion (λ u. before u x ≡ true) ts) → AllByRecursion (λ u. before u x ≡ true) (t ∷ ts)
       go true is e rest = (is, rest e)
       go false is e rest = let z : ◌≡◌ {A = ℕ} 0 1 = cc in absurd (omega arith)
 

@@ -3,7 +3,7 @@ use Rattle.std.proofs.Common.{◌≡◌, ℕ, ◌+◌, ◌*◌, ◌<◌, ◌≤�
 use Rattle.std.proofs.ByRecursion.{all-has, All-weaker, all_has_itself, has_append_left, has_push, has_push_cases}
 use Rattle.std.proofs.lemmas.List.{length_push, length-reverse, get_or_push, get_or_append_left}
 use Rattle.std.proofs.lemmas.Bool.{false≢true, cond_both, or_cases, or_left, or_right}
-use Rattle.std.specs.List.{ContainsAt as Has, AllByRecursion as All}
+use Rattle.std.specs.List.{ContainsAt as Has, AllByRecursion}
 use Rattle.std.specs.Option.{option_to_list}
 use Rattle.order.specs.declared.Timestamp.{Timestamp}
 use Rattle.order.specs.Meaning.{Meaning, Lawful}
@@ -105,7 +105,7 @@ module _ (critical : Kind → Bool) (before : Timestamp → Timestamp → Bool) 
       upto e c (inr less) h = chained e.at c a.at less h
 
       -- then each earlier one that conflicts with the new one is before it
-      before_new : (c : Bool) → critical a.kind ≡ c → All (λ t. before t a.at ≡ true) (asked c k) → (e : Access) → Has es e → conflict critical e a ≡ true → before e.at a.at ≡ true
+      before_new : (c : Bool) → critical a.kind ≡ c → AllByRecursion (λ t. before t a.at ≡ true) (asked c k) → (e : Access) → Has es e → conflict critical e a ≡ true → before e.at a.at ≡ true
       before_new true is passed e h _ =
           ⊎_elim
           (λ w. all-has _ (asked true k) e.at passed (asks_since k e.at w.1))
@@ -121,7 +121,7 @@ module _ (critical : Kind → Bool) (before : Timestamp → Timestamp → Bool) 
           (λ w. upto e w.0 w.2 (all-has _ (option_to_list k.critical) w.0 passed (has_some k.critical w.0 w.1)))
           (cl.past e h)
 
-      still_clean : (c : Bool) → critical a.kind ≡ c → All (λ t. before t a.at ≡ true) (asked c k) → Clean (es ++ a ∷ []) (after before c k a.at)
+      still_clean : (c : Bool) → critical a.kind ≡ c → AllByRecursion (λ t. before t a.at ≡ true) (asked c k) → Clean (es ++ a ∷ []) (after before c k a.at)
       still_clean true is passed = record {
         ordered = twos_push Fits es a cl.ordered (before_new true is passed);
         past = λ e h.
@@ -181,7 +181,7 @@ module _ (critical : Kind → Bool) (before : Timestamp → Timestamp → Bool) 
     }
 
 -- the answers decide what is kept
-same_failing : (b p : Timestamp → Timestamp → Bool) (x : Timestamp) (ts : List Timestamp) → All (λ t. b t x ≡ p t x) ts → first_failing b ts x ≡ first_failing p ts x
+same_failing : (b p : Timestamp → Timestamp → Bool) (x : Timestamp) (ts : List Timestamp) → AllByRecursion (λ t. b t x ≡ p t x) ts → first_failing b ts x ≡ first_failing p ts x
 same_failing b p x [] h = refl
 same_failing b p x (t ∷ ts) h = let rest = same_failing b p x ts h.1 in let one = h.0 in λ i. cond (one i) (rest i) (Some t)
 

@@ -3,7 +3,7 @@ use Rattle.std.proofs.Common.{◌≡◌, ℕ, ◌<◌, ◌≤◌, Bool, true, fa
 use Rattle.std.proofs.ByRecursion.{all-has, All-weaker, all_has_itself, has_append_left, has_push, has_push_cases}
 use Rattle.std.proofs.lemmas.List.{length_push}
 use Rattle.std.proofs.lemmas.Bool.{false≢true, cases_lt, cases_Bool, cond-true, cond-false, or_cases, or_parts}
-use Rattle.std.specs.List.{ContainsAt as Has, AllByRecursion as All}
+use Rattle.std.specs.List.{ContainsAt as Has, AllByRecursion}
 use Rattle.order.specs.declared.Timestamp.{Timestamp}
 use Rattle.order.specs.Meaning.{Meaning}
 use Rattle.histories.specs.declared.accesses.Race.{Race}
@@ -25,11 +25,11 @@ module _ (before : Timestamp → Timestamp → Bool) (x : Timestamp) where
       (λ there. let h = any_true ts there in (h.0, has_tail t ts h.0 h.1, h.2))
       (or_cases (before t x) _ e)
 
-  any_false : (ts : List Timestamp) → any_before before ts x ≡ false → All (λ t. before t x ≡ false) ts
+  any_false : (ts : List Timestamp) → any_before before ts x ≡ false → AllByRecursion (λ t. before t x ≡ false) ts
   any_false [] e = tt
   any_false (t ∷ ts) e = let h = or_parts (before t x) (any_before before ts x) e in (h.0, any_false ts h.1)
 
-any_same : (b p : Timestamp → Timestamp → Bool) (x : Timestamp) (ts : List Timestamp) → All (λ t. b t x ≡ p t x) ts → any_before b ts x ≡ any_before p ts x
+any_same : (b p : Timestamp → Timestamp → Bool) (x : Timestamp) (ts : List Timestamp) → AllByRecursion (λ t. b t x ≡ p t x) ts → any_before b ts x ≡ any_before p ts x
 any_same b p x [] h = refl
 any_same b p x (t ∷ ts) h = let one = h.0 in let rest = any_same b p x ts h.1 in λ i. one i || rest i
 
