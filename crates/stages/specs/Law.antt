@@ -122,7 +122,7 @@ event_ended s (await p f) e = refl
 stamp_given : (s : Staged) (o : Option ℕ) → s.number ≤ last_number → IfSome o (λ k. (1 ≤ k) × (k ≤ length (reverse s.births))) → IfOk (stamp_at s o) (λ r. StampGiven stages s r.0 r.1)
 stamp_given s None v h = tt
 stamp_given s (Some place) v h =
-    passing (λ (r : Timestamp × Staged). StampGiven stages s r.0 r.1) (((s.number == last_number), UsedUp) ∷ []) _ (λ passed. record {
+    passing (λ (r : Timestamp × Staged). StampGiven stages s r.0 r.1) ((s.number == last_number, UsedUp) ∷ []) _ (λ passed. record {
       advanced = advanced s s.births (omega arith) (λ _ _ _. refl);
       lives = λ _. refl;
       valid = still_counted s.number v passed.0;

@@ -36,7 +36,7 @@ abbrev pub birth_checks : Staged → ℕ → ℕ → ℕ → List (Bool × Order
 birth_checks s p parent stage =
     (p == 0 || lives_in s p, LiveAlready)
     ∷ (nat_le s.room (length s.births), TableFull)
-    ∷ ((s.number == last_number), UsedUp)
+    ∷ (s.number == last_number, UsedUp)
     ∷ (not (fits parent stage), Unfit)
     ∷ []
 
@@ -47,7 +47,7 @@ tell_birth s p parent stage =
 
 -- the checks of a death, in their order
 abbrev pub death_checks : Staged → ℕ → List (Bool × OrderFault)
-death_checks s p = (not (lives_in s p), NotLive) ∷ ((s.number == last_number), UsedUp) ∷ []
+death_checks s p = (not (lives_in s p), NotLive) ∷ (s.number == last_number, UsedUp) ∷ []
 
 -- a death ends its process
 abbrev pub tell_death : Staged → ℕ → Result Staged OrderFault
@@ -65,7 +65,7 @@ tell_stage s (await p f) = Err Unfit
 -- the next timestamp, at the process's place, if it lives
 abbrev pub stamp_at : Staged → Option ℕ → Result (Timestamp × Staged) OrderFault
 stamp_at s None = Err NotLive
-stamp_at s (Some place) = checked (((s.number == last_number), UsedUp) ∷ []) (Ok (record { number = s.number + 1; place = place }, next s s.births))
+stamp_at s (Some place) = checked ((s.number == last_number, UsedUp) ∷ []) (Ok (record { number = s.number + 1; place = place }, next s s.births))
 
 -- a timestamp is known if its number lies from 1 to the present one and its place from 1 to the count of births
 abbrev pub known_in : Staged → Timestamp → Bool
