@@ -113,7 +113,7 @@ module _ (s : Build) (sound : Sound s) where
   death_taken : (p : ℕ) (o : Option ℕ) → MatchOption o (Nobody s.births p) (λ i. Found s.births p i) → IfOk (death_from s o) (EventTaken make_machine s (death p))
   death_taken p None h = tt
   death_taken p (Some i) f =
-      passing (EventTaken make_machine s (death p)) (((s.number == last_number), UsedUp) ∷ []) (Ok (died s i)) (λ passed.
+      passing (EventTaken make_machine s (death p)) ((s.number == last_number, UsedUp) ∷ []) (Ok (died s i)) (λ passed.
       let more = still_counted s.number sound.number passed.0 in
       record {
         advanced = advanced s (died s i) sound (died_later s sound more i f.within f.live);
@@ -133,7 +133,7 @@ module _ (s : Build) (sound : Sound s) where
   stamp_taken : (o : Option ℕ) → IfSome o (ParentHome s) → IfOk (stamp_from s o) (λ r. StampGiven make_machine s r.0 r.1)
   stamp_taken None h = tt
   stamp_taken (Some h) parent =
-      passing (λ (r : Timestamp × Build). StampGiven make_machine s r.0 r.1) (((s.number == last_number), UsedUp) ∷ []) _ (λ passed.
+      passing (λ (r : Timestamp × Build). StampGiven make_machine s r.0 r.1) ((s.number == last_number, UsedUp) ∷ []) _ (λ passed.
       let more = still_counted s.number sound.number passed.0 in
       record {
         advanced = advanced s (counted s) sound (counted_later s sound more);
@@ -163,7 +163,7 @@ target_ended s ks (Some h) e = refusing (target_checks s h ks) _ 3 (eq-eqb s.num
 
 death_ended : (s : Build) (o : Option ℕ) → s.number ≡ last_number → is_ok (death_from s o) ≡ false
 death_ended s None e = refl
-death_ended s (Some i) e = refusing (((s.number == last_number), UsedUp) ∷ []) _ 0 (eq-eqb s.number last_number e)
+death_ended s (Some i) e = refusing ((s.number == last_number, UsedUp) ∷ []) _ 0 (eq-eqb s.number last_number e)
 
 event_ended : (s : Build) (e : Told) → s.number ≡ last_number → is_ok (tell_make_order s e) ≡ false
 event_ended s (birth p q t) e = birth_ended s p t (parent_home s q) e

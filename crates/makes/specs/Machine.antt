@@ -97,7 +97,7 @@ birth_checks s p h t =
     ∷ (not (t == 0) && not (is_make (kind_at s.places h)), NotMake)
     ∷ (nat_lt (targets_of (kind_at s.places h)) t, Undeclared)
     ∷ (nat_le s.room.births (length s.births), TableFull)
-    ∷ ((s.number == last_number), UsedUp)
+    ∷ (s.number == last_number, UsedUp)
     ∷ []
 
 abbrev pub birth_from : Build → ℕ → ℕ → Option ℕ → Result Build OrderFault
@@ -125,7 +125,7 @@ make_checks s h =
     (is_make (kind_at s.places h), MakeAlready)
     ∷ (nat_le 16 (place_at s.places h).depth, TooDeep)
     ∷ (nat_le s.room.makes s.makes, TableFull)
-    ∷ ((s.number == last_number), UsedUp)
+    ∷ (s.number == last_number, UsedUp)
     ∷ []
 
 abbrev pub make_from : Build → Option ℕ → Result Build OrderFault
@@ -157,7 +157,7 @@ target_checks s h ks =
     (not (is_make (kind_at s.places h)), NotMake)
     ∷ (not (all_declared (targets_of (kind_at s.places h)) ks), Undeclared)
     ∷ (nat_le s.room.targets s.targets, TableFull)
-    ∷ ((s.number == last_number), UsedUp)
+    ∷ (s.number == last_number, UsedUp)
     ∷ []
 
 abbrev pub target_from : Build → List ℕ → Option ℕ → Result Build OrderFault
@@ -182,7 +182,7 @@ died s i = record {
 
 abbrev pub death_from : Build → Option ℕ → Result Build OrderFault
 death_from s None = Err NotLive
-death_from s (Some i) = checked (((s.number == last_number), UsedUp) ∷ []) (Ok (died s i))
+death_from s (Some i) = checked ((s.number == last_number, UsedUp) ∷ []) (Ok (died s i))
 
 abbrev pub tell_death : Build → ℕ → Result Build OrderFault
 tell_death s p = death_from s (found s p)
@@ -210,7 +210,7 @@ counted s = record {
 
 abbrev pub stamp_from : Build → Option ℕ → Result (Timestamp × Build) OrderFault
 stamp_from s None = Err NotLive
-stamp_from s (Some h) = checked (((s.number == last_number), UsedUp) ∷ []) (Ok (record { number = s.number + 1; place = stand s.places h }, counted s))
+stamp_from s (Some h) = checked ((s.number == last_number, UsedUp) ∷ []) (Ok (record { number = s.number + 1; place = stand s.places h }, counted s))
 
 abbrev pub stamp_make_order : Build → ℕ → Result (Timestamp × Build) OrderFault
 stamp_make_order s p = stamp_from s (home_of s p)
