@@ -1,5 +1,5 @@
 -- The form of a path: as a test that computes, and as facts in words.
-use Rattle.std.specs.Prelude.{◌≡◌, ℕ, ◌+◌, ◌-◌, ◌<◌, ◌≤◌, Bool, false, not, ◌&&◌, ◌||◌, List, [], ◌∷◌, length, ◌==◌, ◌≢◌, nat_le, slice_index, slice_index_or}
+use Rattle.std.specs.Prelude.{◌≡◌, ℕ, ◌+◌, ◌-◌, ◌<◌, ◌≤◌, Bool, false, not, ◌&&◌, ◌||◌, List, [], ◌∷◌, length, ◌==◌, ◌≢◌, nat_le, slice_index}
 
 -- the byte "/"
 abbrev pub slash : ℕ
@@ -19,7 +19,7 @@ pub record WellFormed (bs : List ℕ) : Type 0 where
   pub some : 1 ≤ length bs
   pub short : length bs ≤ longest
   -- it begins with a slash
-  pub absolute : slice_index_or bs 0 0 ≡ slash
+  pub absolute : slice_index bs 0 ≡ slash
   -- no byte is 0
   pub no_zero : (k : ℕ) → k < length bs → slice_index bs k ≢ 0
   -- no two neighbours are slashes
