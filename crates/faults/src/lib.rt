@@ -9,35 +9,35 @@ ghost use Rattle.faults.specs.Numbers.{order_number, entry_number, reader_number
 
 use std::alloc::{AllocError, AllocFailed};
 
-// Refusals of an order, for an event or a timestamp.
-#[derive(Clone, Copy, Debug, PartialEq)]
+// Refusals of an order, for an event or a timestamp, each with its number.
+#[derive(Clone, Copy, Debug, PartialEq, Eq)]
 pub enum OrderFault {
     // The process, or the parent that a birth names, does not live.
-    NotLive,
+    NotLive = 1,
     // A process that is born lives already, or its number is 0.
-    LiveAlready,
+    LiveAlready = 2,
     // The process is not a make.
-    NotMake,
+    NotMake = 3,
     // The process is a make already.
-    MakeAlready,
+    MakeAlready = 4,
     // The target is not declared.
-    Undeclared,
+    Undeclared = 5,
     // The make would be the seventeenth, one inside the other.
-    TooDeep,
+    TooDeep = 6,
     // A table of the order is full.
-    TableFull,
+    TableFull = 7,
     // The last number is given out.
-    UsedUp,
+    UsedUp = 8,
     // This order does not take such an event.
-    Unfit,
+    Unfit = 9,
     // The flag is not one from 1 to 32, was posted before, or is awaited and was not posted.
-    BadFlag,
+    BadFlag = 10,
     // There is no room for another await.
-    AwaitsFull,
+    AwaitsFull = 11,
 }
 
 // Refusals of a detector, for a ticket, an entry or a question.
-#[derive(Clone, Copy, Debug, PartialEq)]
+#[derive(Clone, Copy, Debug, PartialEq, Eq)]
 pub enum EntryFault {
     // The order refused.
     Order(OrderFault),
@@ -56,7 +56,7 @@ pub enum EntryFault {
 }
 
 // Refusals of the log reader, and of the tools that run a log.
-#[derive(Clone, Copy, Debug, PartialEq)]
+#[derive(Clone, Copy, Debug, PartialEq, Eq)]
 pub enum ReaderFault {
     // The detector or its order refused.
     Entry(EntryFault),
@@ -117,24 +117,13 @@ impl OrderFault {
     pub fn number(self) -> u8
         ensures { result ≡ order_number self }
     {
-        match self {
-            OrderFault::NotLive => 1,
-            OrderFault::LiveAlready => 2,
-            OrderFault::NotMake => 3,
-            OrderFault::MakeAlready => 4,
-            OrderFault::Undeclared => 5,
-            OrderFault::TooDeep => 6,
-            OrderFault::TableFull => 7,
-            OrderFault::UsedUp => 8,
-            OrderFault::Unfit => 9,
-            OrderFault::BadFlag => 10,
-            OrderFault::AwaitsFull => 11,
-        }
+        self as u8
     }
 }
 
 impl EntryFault {
     // The refusal's own number, through the layers; none where memory ran out.
+    // A match, since `as` takes only an enum whose variants hold nothing.
     pub fn number(self) -> Option<u8>
         ensures { result ≡ entry_number self }
     {
@@ -152,6 +141,7 @@ impl EntryFault {
 
 impl ReaderFault {
     // The refusal's own number, through the layers; none where memory ran out.
+    // A match, as for `EntryFault`.
     pub fn number(self) -> Option<u8>
         ensures { result ≡ reader_number self }
     {
