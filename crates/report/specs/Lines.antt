@@ -1,10 +1,9 @@
 -- The lines that the tools print.
-use Rattle.std.specs.Prelude.{◌≡◌, ℕ, ◌+◌, ◌^◌, ◌<◌, ◌≤◌, ◌⊎◌, List, [], ◌∷◌, ◌++◌, length, take, drop, Some, None, Ok, Err, decimal, Option, Result}
+use Rattle.std.specs.Prelude.{◌≡◌, ℕ, ◌^◌, ◌<◌, ◌≤◌, ◌⊎◌, List, [], ◌∷◌, ◌++◌, length, drop, Ok, Err, decimal, Result}
 use Rattle.faults.specs.declared.EntryFault.{EntryFault}
 use Rattle.faults.specs.declared.EntryFault.TheVariants.{NoRoom}
 use Rattle.report.specs.declared.Line.{Line}
 use Rattle.report.specs.declared.Line.TheVariants.{Contents, Path, Directory, End, Refused}
-use Rattle.report.specs.declared.Parts.{Parts}
 
 -- a number in decimal, after a space
 abbrev pub field : ℕ → List ℕ
@@ -33,20 +32,6 @@ numbers (Refused number place) = number ∷ place ∷ []
 -- a line: its letter, its numbers
 abbrev pub text : Line → List ℕ
 text l = letter l ∷ fields (numbers l)
-
--- the end of a line: its third number, if there is one
-abbrev pub line_end : Option ℕ → List ℕ
-line_end None = 10 ∷ []
-line_end (Some n) = field n ++ (10 ∷ [])
-
--- the line of its parts
-abbrev pub line_of : Parts → List ℕ
-line_of p = p.letter ∷ (field p.first ++ (field p.second ++ line_end p.third))
-
--- bytes are put at a place: what stood before it and behind them stays
-pub record Put (before : List ℕ) (at : ℕ) (bs after : List ℕ) (end : ℕ) : Type 0 where
-  pub bytes : after ≡ take at before ++ (bs ++ drop (at + length bs) before)
-  pub end_at : end ≡ at + length bs
 
 -- a line is written at the start of the buffer and the rest stays; or the buffer is too short, and all of it stays
 abbrev pub Writes : List ℕ → List ℕ → List ℕ → Result ℕ EntryFault → Type 0

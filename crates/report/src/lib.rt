@@ -1,13 +1,18 @@
 // The lines that the tools print, one at a time, into a caller's buffer.
 #![tactic(auto)]
 
-ghost use Rattle.std.specs.Prelude.{◌≡◌, ◌+◌, ◌<◌, ◌≤◌, max, true, [], ◌∷◌, length, is_ok, decimal};
-ghost use Rattle.report.specs.Lines.{field, line_end, line_of, text, Put, Usual, Writes};
+ghost use Rattle.std.specs.Prelude.{◌≡◌, ◌<◌, ◌≤◌, true, ◌∷◌, length, is_ok};
+ghost use Rattle.report.specs.Lines.{fields, text, Usual, Writes};
 
+use arrayvec::ArrayString;
 use faults::EntryFault;
+use itoa::Buffer;
 
 // The shortest buffer that a line is written into.
 pub const SHORTEST_BUFFER: usize = 32;
+
+// The room of a letter, three numbers of 20 digits, each after a space, and the end of the line.
+const LONGEST_LINE: usize = 65;
 
 // One printed line.
 #[derive(Clone, Copy)]
@@ -40,170 +45,58 @@ pub enum Line {
     },
 }
 
-// A line's letter and its numbers.
-#[derive(Clone, Copy)]
-pub struct Parts {
-    letter: u8,
-    first: u64,
-    second: u64,
-    third: Option<u64>,
-}
-
-fn split(line: Line) -> Parts
-    ensures { line_of result ≡ text line }
-{
-    let third = None;
-    match line {
-        Line::Contents { earlier, later } => {
-            Parts {
-                letter: b'C',
-                first: u64::from(earlier),
-                second: u64::from(later),
-                third,
-            }
+impl Line {
+    // The line as it is printed.
+    fn text(self) -> ArrayString<LONGEST_LINE>
+        ensures { result.bytes ≡ text self }
+    {
+        match self {
+            Line::Contents { earlier, later } => join('C', &[earlier.into(), later.into()]),
+            Line::Path { earlier, later } => join('P', &[earlier.into(), later.into()]),
+            Line::Directory { earlier, later } => join('D', &[earlier.into(), later.into()]),
+            Line::End {
+                entries,
+                checks,
+                races,
+            } => join('E', &[entries.into(), checks.into(), races.into()]),
+            Line::Refused { number, place } => join('X', &[number.into(), place]),
         }
-        Line::Path { earlier, later } => Parts {
-            letter: b'P',
-            first: u64::from(earlier),
-            second: u64::from(later),
-            third,
-        },
-        Line::Directory { earlier, later } => {
-            Parts {
-                letter: b'D',
-                first: u64::from(earlier),
-                second: u64::from(later),
-                third,
-            }
-        }
-        Line::End {
-            entries,
-            checks,
-            races,
-        } => {
-            let third = Some(u64::from(races));
-            Parts {
-                letter: b'E',
-                first: u64::from(entries),
-                second: u64::from(checks),
-                third,
-            }
-        }
-        Line::Refused { number, place } => Parts {
-            letter: b'X',
-            first: u64::from(number),
-            second: place,
-            third,
-        },
     }
 }
 
-// How many digits a number has.
-fn digits(n: u64) -> usize
-    ensures count { result ≡ length (decimal n) }
-    ensures bound { result ≤ 20 }
+// A letter, up to three numbers in decimal, each after a space, and the end of the line.
+// Not `write!`: no clause says when it succeeds, so `enough` of `write_line` stayed open. A push needs only proved room.
+#[tactic(auto, using(crate::proofs::Fields::all_fields))]
+fn join(letter: char, numbers: &[u64]) -> ArrayString<LONGEST_LINE>
+    requires ascii { letter < 128 }
+    requires few { length numbers.now ≤ 3 }
+    ensures { result.bytes ≡ letter ∷ fields numbers.now }
 {
-    let mut left = n;
-    let mut count = 1;
-    while left >= 10 {
-        left /= 10;
-        count += 1;
+    let mut line = ArrayString::new();
+    let mut digits = Buffer::new();
+    line.push(letter);
+    for &n in numbers {
+        line.push(' ');
+        line.push_str(digits.format(n));
     }
-    count
-}
-
-// One byte at a place; answers the place behind it.
-fn put_byte(buffer: &mut [u8], at: usize, b: u8) -> usize
-    requires { at < length buffer.old }
-    ensures { Put buffer.old at (b ∷ []) buffer.new result }
-{
-    buffer[at] = b;
-    at + 1
-}
-
-// A number in decimal.
-fn put_number(buffer: &mut [u8], at: usize, n: u64) -> usize
-    requires { at + length (decimal n) ≤ length buffer.old }
-    ensures { Put buffer.old at (decimal n) buffer.new result }
-{
-    let last = b'0' + (n % 10) as u8;
-    if n < 10 {
-        return put_byte(buffer, at, last);
-    }
-    let next = put_number(buffer, at, n / 10);
-    put_byte(buffer, next, last)
-}
-
-// A number after a space.
-fn put_field(buffer: &mut [u8], at: usize, n: u64) -> usize
-    requires { at + length (field n) ≤ length buffer.old }
-    ensures { Put buffer.old at (field n) buffer.new result }
-{
-    let next = put_byte(buffer, at, b' ');
-    put_number(buffer, next, n)
-}
-
-// How many bytes a number has after a space.
-fn field_size(n: u64) -> usize
-    ensures count { result ≡ length (field n) }
-    ensures bound { result ≤ 21 }
-{
-    1 + digits(n)
-}
-
-// How many bytes a line has.
-fn size(p: &Parts) -> usize
-    ensures { result ≡ length (line_of p.now) }
-{
-    let numbers = field_size(p.first) + field_size(p.second);
-    match p.third {
-        Some(n) => 1 + numbers + field_size(n) + 1,
-        None => 1 + numbers + 1,
-    }
-}
-
-// The last number, if there is a third, and the end of the line.
-fn put_end(buffer: &mut [u8], at: usize, third: Option<u64>) -> usize
-    requires { at + length (line_end third) ≤ length buffer.old }
-    ensures { Put buffer.old at (line_end third) buffer.new result }
-{
-    let Some(n) = third else {
-        return put_byte(buffer, at, b'\n');
-    };
-    let next = put_field(buffer, at, n);
-    put_byte(buffer, next, b'\n')
-}
-
-// A whole line at the start of a buffer.
-fn put_line(buffer: &mut [u8], p: &Parts) -> usize
-    requires { length (line_of p.now) ≤ length buffer.old }
-    ensures { Put buffer.old 0 (line_of p.now) buffer.new result }
-{
-    let a = put_byte(buffer, 0, p.letter);
-    let b = put_field(buffer, a, p.first);
-    let c = put_field(buffer, b, p.second);
-    put_end(buffer, c, p.third)
-}
-
-// How long a buffer has to be for a line of some size.
-fn needed(size: usize) -> usize
-    ensures { result ≡ max size 32 }
-{
-    size.max(SHORTEST_BUFFER)
+    line.push('\n');
+    line
 }
 
 // Writes a line at the start of a buffer and answers its length; the bytes behind it stay. 15 where the buffer is shorter than 32
 // bytes or than the line.
+#[tactic(auto, using(crate::proofs::Fields::length_usual))]
 pub fn write_line(line: Line, buffer: &mut [u8]) -> Result<usize, EntryFault>
     ensures answer { Writes (text line) buffer.old buffer.new result }
     ensures enough { Usual line → 32 ≤ length buffer.old → is_ok result ≡ true }
 {
-    let p = split(line);
-    let need = needed(size(&p));
-    if buffer.len() < need {
+    let text = line.text();
+    let size = text.len();
+    if buffer.len() < size.max(SHORTEST_BUFFER) {
         return Err(EntryFault::NoRoom);
     }
-    Ok(put_line(buffer, &p))
+    buffer[..size].copy_from_slice(text.as_bytes());
+    Ok(size)
 }
 
 #[cfg(test)]
@@ -290,5 +183,18 @@ mod tests {
         assert!(rt; short[0] == b'.');
         let mut enough = [b'.'; 32];
         assert!(rt; write_line(line, &mut enough).is_ok());
+    }
+
+    #[test]
+    fn long_line(rt: HostRuntime) {
+        let line = Line::End {
+            entries: u32::MAX,
+            checks: u32::MAX,
+            races: u32::MAX,
+        };
+        let mut short = [b'.'; 34];
+        assert!(rt; write_line(line, &mut short).is_err());
+        assert!(rt; short[0] == b'.');
+        assert!(rt; writes(line, b"E 4294967295 4294967295 4294967295\n"));
     }
 }
