@@ -1,29 +1,28 @@
 -- A record at the front of some bytes.
-use Rattle.std.proofs.Common.{◌≡◌, ℕ, ◌+◌, ◌*◌, ◌/◌, ◌%◌, ◌^◌, ◌<◌, ◌⊎◌, List, ◌∷◌, ◌++◌, length, Some, None, Ok, Err, Option, Result, sym, ap, ◌∙◌, inl, inr, arith}
+use Rattle.std.proofs.Common.{◌≡◌, ℕ, ◌^◌, ◌<◌, List, ◌++◌, length, Some, None, Ok, Err, Option, Result, sym, ap, ◌∙◌, inl, inr, arith}
+use Rattle.std.specs.List.{IsSplitAt}
+use Rattle.std.proofs.lemmas.List.{take-append-drop}
 use Rattle.faults.specs.declared.ReaderFault.{ReaderFault}
 use Rattle.trace_log.specs.declared.record.Record.{Record}
 use Rattle.trace_log.specs.Item.{Item, item}
 use Rattle.trace_log.specs.Format.{big, body, encode, Small, Writable}
-use Rattle.trace_log.specs.Decode.{end, got, refused, decode, framed, parsed, by_letter}
-use Rattle.trace_log.specs.Reading.{Starved, Refuses, Next, Returned}
-use Rattle.trace_log.proofs.Trip.{open_frame, decode_encode}
+use Rattle.trace_log.specs.Decode.{end, got, refused, decode}
+use Rattle.trace_log.specs.Reading.{Next, Returned}
+use Rattle.trace_log.proofs.Trip.{decode_encode}
 
 -- a frame: two bytes for its length, then that many bytes
-module _ (bs rest frame after : List ℕ) (n : ℕ) (e : bs ≡ big 2 n ++ rest) (f : rest ≡ frame ++ after) (long : length frame ≡ n) (few : n < 2 ^ 16) where
-  pub decode_frame : decode bs ≡ framed frame after
-  decode_frame =
-      let says : n / 256 % 256 * 256 + n % 256 ≡ length frame = omega arith in
-      ap decode (e ∙ ap (λ r. big 2 n ++ r) f) ∙ open_frame frame after (n / 256 % 256 * 256 + n % 256) says
+module _ (bs rest frame after : List ℕ) (n : ℕ) (e : bs ≡ big 2 n ++ rest) (cut : IsSplitAt rest n frame after) (few : n < 2 ^ 16) where
+  parts : rest ≡ frame ++ after
+  parts = sym (take-append-drop n rest) ∙ sym (λ j. cut.1 j ++ cut.2 j)
 
   pub frame_stood : (i : Item) → frame ≡ body i → Small i → (bs ≡ encode i ++ after) × Writable i
   frame_stood i is small =
-      let size : n ≡ length (body i) = sym long ∙ ap length is in
-      (e ∙ (λ j. big 2 (size j) ++ f j) ∙ ap (λ b. big 2 (length (body i)) ++ (b ++ after)) is, (small, omega arith))
+      let size : n ≡ length (body i) = sym cut.3 ∙ ap length is in
+      (e ∙ (λ j. big 2 (size j) ++ parts j) ∙ ap (λ b. big 2 (length (body i)) ++ (b ++ after)) is, (small, omega arith))
 
-  pub frame_refused : (letter : ℕ) (fields : List ℕ) (g : ReaderFault) → frame ≡ letter ∷ fields → (by_letter letter fields ≡ Err g) ⊎ Starved (by_letter letter fields) g → Refuses (decode bs) g
-  frame_refused letter fields g is (inl h) = inl (decode_frame ∙ ap (λ b. framed b after) is ∙ ap (λ r. parsed r after) h)
-  frame_refused letter fields g is (inr h) =
-      inr (h.0, (h.1.0, (h.1.1.0, (h.1.1.1.0, (after, decode_frame ∙ ap (λ b. framed b after) is ∙ ap (λ r. parsed r after) h.1.1.1.1)))))
+-- what a record that stood at the front is read as
+pub stood_says : (bs rest : List ℕ) (i : Item) → (bs ≡ encode i ++ rest) × Writable i → decode bs ≡ got i rest
+stood_says bs rest i h = ap decode h.0 ∙ decode_encode i rest h.1
 
 -- what next answers is what was written there
 pub returned : (here there : List ℕ) (r : Result (Option Record) ReaderFault) → Next here there r → Returned here there r

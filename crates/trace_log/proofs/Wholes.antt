@@ -1,21 +1,19 @@
 -- A whole log, record by record.
-use Rattle.std.proofs.Common.{◌≡◌, ℕ, suc, ◌+◌, ◌-◌, ◌*◌, Bool, true, false, cond, ltb, List, [], ◌∷◌, ◌++◌, map, length, take, drop, IfOk, Some, None, Ok, Err, vec_items, Option, Result, Vec, sym, refl, ap, ◌∙◌, subst, inl, inr, append_assoc, append-nil, arith}
+use Rattle.std.proofs.Common.{◌≡◌, ℕ, suc, ◌+◌, ◌-◌, List, [], ◌∷◌, ◌++◌, map, length, Some, None, Option, sym, refl, ap, ◌∙◌, subst, inl, inr, append_assoc, append-nil, arith}
 use Rattle.std.specs.List.{flat_map, AllByRecursion}
 use Rattle.std.proofs.ByRecursion.{All-push}
 use Rattle.std.proofs.lemmas.List.{length-append, map_push, flat_map_more}
 use Rattle.faults.specs.declared.ReaderFault.{ReaderFault}
-use Rattle.faults.specs.declared.ReaderFault.TheVariants.{Entry, BadVersion, Cut}
+use Rattle.faults.specs.declared.ReaderFault.TheVariants.{Entry, BadVersion}
 use Rattle.faults.specs.declared.EntryFault.{EntryFault}
 use Rattle.faults.specs.declared.EntryFault.TheVariants.{NoMemory}
-use Rattle.std.specs.declared.alloc.AllocError.{AllocError}
-use Rattle.std.specs.declared.alloc.Global.{Global}
 use Rattle.trace_log.specs.declared.contents.Placed.{Placed}
 use Rattle.trace_log.specs.Item.{Item, item}
 use Rattle.trace_log.specs.Format.{encode, log_of, Writable}
-use Rattle.trace_log.specs.Decode.{Front, end, got, refused, decode, framed, parsed, by_letter}
+use Rattle.trace_log.specs.Decode.{Front, end, got, refused, decode}
 use Rattle.trace_log.specs.Reading.{Refuses}
-use Rattle.trace_log.specs.declared.contents.Contents.{Contents}
-use Rattle.trace_log.specs.Whole.{records_of, refusal_of, Stopped, StoodAll, ReturnedAll, placed, RecordAt, Stop, Reads, ends, stops, goes_on, ReadsLog, opened, unopened, record_of}
+use Rattle.trace_log.specs.declared.contents.Refusal.{Refusal}
+use Rattle.trace_log.specs.Whole.{placed, RecordAt, Stop, Reads, ends, stops, goes_on, ReadsLog, opened, unopened, record_of, stop_of}
 use Rattle.trace_log.proofs.Trip.{decode_encode}
 
 -- what has a first byte is not the end
@@ -23,23 +21,6 @@ abbrev Goes : Front → Type 0
 Goes end = ⊥
 Goes (got i rest) = Unit {0}
 Goes (refused f) = Unit {0}
-
-parsed_goes : (r : Result Item ReaderFault) (rest : List ℕ) → Goes (parsed r rest)
-parsed_goes (Ok i) rest = tt
-parsed_goes (Err f) rest = tt
-
-framed_goes : (frame rest : List ℕ) → Goes (framed frame rest)
-framed_goes [] rest = tt
-framed_goes (letter ∷ bs) rest = parsed_goes (by_letter letter bs) rest
-
-cut_goes : (t : Bool) (front : Front) → Goes front → Goes (cond t (refused Cut) front)
-cut_goes true front h = tt
-cut_goes false front h = h
-
-pub end_nil : (bs : List ℕ) → decode bs ≡ end → bs ≡ []
-end_nil [] e = refl
-end_nil (a ∷ []) e = absurd (subst Goes e tt)
-end_nil (a ∷ b ∷ bs) e = absurd (subst Goes e (cut_goes (ltb (length bs) (a * 256 + b)) _ (framed_goes (take (a * 256 + b) bs) (drop (a * 256 + b) bs))))
 
 -- the records that are read are those that were written, each at its place
 reads_written : (is : List Item) (place : ℕ) {size : ℕ} {bs : List ℕ} {xs : List RecordAt} {e : Option Stop} → AllByRecursion Writable is → bs ≡ flat_map encode is → place + length bs ≡ size → Reads size bs xs e → (xs ≡ placed place is) × (e ≡ None)
@@ -101,34 +82,15 @@ module _ {log : List ℕ} {xs : List Placed} {size : ℕ} {left : List ℕ} (so 
   pub at_end : decode left ≡ end → ReadsLog log (map record_of xs) None
   at_end d = subst (λ zs. ReadsLog log zs None) (append-nil (map record_of xs)) (so.on [] None (ends d))
 
-  pub all_written : decode left ≡ end → log ≡ log_of (items xs)
-  all_written d = so.written ∙ ap (λ l. 1 ∷ (flat_map encode (items xs) ++ l)) (end_nil left d) ∙ ap (λ l. 1 ∷ l) (append-nil (flat_map encode (items xs)))
-
-  at_stop : (f : ReaderFault) → decode left ≡ refused f → ReadsLog log (map record_of xs) (Some (record { place = size - length left; fault = f }))
-  at_stop f d = subst (λ zs. ReadsLog log zs (Some (record { place = size - length left; fault = f }))) (append-nil (map record_of xs)) (so.on [] _ (stops f d))
-
-  pub refused_here : (f : ReaderFault) (place : ℕ) → place ≡ size - length left → Refuses (decode left) f → ((g : EntryFault) → f ≡ Entry g → ⊥) → ReadsLog log (map record_of xs) (Some (record { place = place; fault = f }))
-  refused_here f place at (inl d) other = subst (λ n. ReadsLog log (map record_of xs) (Some (record { place = n; fault = f }))) (sym at) (at_stop f d)
-  refused_here f place at (inr h) other = absurd (other NoMemory h.0)
+  pub refused_here : (f : ReaderFault) (r : Refusal) (place : ℕ) → place ≡ size - length left → Refuses (decode left) f → r ≡ record { place = place; fault = f } → ((g : EntryFault) → f ≡ Entry g → ⊥) → ReadsLog log (map record_of xs) (Some (stop_of r))
+  refused_here f r place at (inl d) is other =
+      let stop : ◌≡◌ {A = Stop} (record { place = size - length left; fault = f }) (stop_of r) = (λ k. record { place = sym at k; fault = f }) ∙ ap stop_of (sym is) in
+      let all = subst (λ zs. ReadsLog log zs (Some (record { place = size - length left; fault = f }))) (append-nil (map record_of xs)) (so.on [] _ (stops f d)) in
+      subst (λ s. ReadsLog log (map record_of xs) (Some s)) stop all
+  refused_here f r place at (inr h) is other = absurd (other NoMemory h.0)
 
 -- a log whose version is not 1
-pub not_opened : (log : List ℕ) (xs : List Placed) (f : ReaderFault) → xs ≡ [] → f ≡ BadVersion → ((bs : List ℕ) → log ≡ 1 ∷ bs → ⊥) → ReadsLog log (map record_of xs) (Some (record { place = 0; fault = f }))
-not_opened log xs f none is other =
-    subst (λ ps. ReadsLog log (map record_of ps) (Some (record { place = 0; fault = f }))) (sym none) (subst (λ g. ReadsLog log [] (Some (record { place = 0; fault = g }))) (sym is) (unopened other))
-
--- a log that is refused
-module _ (log : List ℕ) (records : Vec Placed Global) (place : ℕ) (fault : ReaderFault) where
-  pub stopped_reads : (r : Result Contents AllocError) → Stopped records place fault r → (((f : EntryFault) → fault ≡ Entry f → ⊥) → ReadsLog log (map record_of (vec_items records)) (Some (record { place = place; fault = fault }))) → IfOk r (λ c. ReadsLog log (records_of c) (refusal_of c))
-  stopped_reads (Ok c) h reads = subst (λ d. ReadsLog log (records_of d) (refusal_of d)) (sym h.0) (reads h.1)
-  stopped_reads (Err _) h reads = tt
-
-  pub stopped_stood : (r : Result Contents AllocError) → Stopped records place fault r → IfOk r (StoodAll log)
-  stopped_stood (Ok c) h =
-      λ none.
-      let stop : refusal_of c ≡ Some (record { place = place; fault = fault }) = ap refusal_of h.0 in
-      let z : ◌≡◌ {A = ℕ} 0 1 = cc in absurd (omega arith)
-  stopped_stood (Err _) h = tt
-
-pub made_returned : (log : List ℕ) (r : Result Contents AllocError) → IfOk r (λ c. ReadsLog log (records_of c) (refusal_of c)) → IfOk r (ReturnedAll log)
-made_returned log (Ok c) h = log_written h
-made_returned log (Err _) h = tt
+pub not_opened : (log : List ℕ) (xs : List Placed) (f : ReaderFault) (r : Refusal) → xs ≡ [] → f ≡ BadVersion → ((bs : List ℕ) → log ≡ 1 ∷ bs → ⊥) → r ≡ record { place = 0; fault = f } → ReadsLog log (map record_of xs) (Some (stop_of r))
+not_opened log xs f r none is other stop =
+    let at : ◌≡◌ {A = Stop} (stop_of r) (record { place = 0; fault = BadVersion }) = ap stop_of stop ∙ (λ k. record { place = 0; fault = is k }) in
+    subst (λ ps. ReadsLog log (map record_of ps) (Some (stop_of r))) (sym none) (subst (λ s. ReadsLog log [] (Some s)) (sym at) (unopened other))

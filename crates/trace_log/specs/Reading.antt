@@ -1,11 +1,10 @@
 -- What the reader answers.
 use Rattle.std.specs.Prelude.{◌≡◌, ℕ, ◌⊎◌, List, [], ◌∷◌, ◌++◌, length, Some, None, Ok, Err, Option, Result, ◌≢◌}
+use Rattle.std.specs.Borrow.{Bor}
 use Rattle.faults.specs.declared.EntryFault.TheVariants.{NoMemory}
 use Rattle.faults.specs.declared.ReaderFault.{ReaderFault}
 use Rattle.faults.specs.declared.ReaderFault.TheVariants.{Entry, BadVersion}
 use Rattle.trace_log.specs.declared.record.Record.{Record}
-use Rattle.trace_log.specs.declared.reader.Found.{Found}
-use Rattle.trace_log.specs.declared.reader.Found.TheVariants.{Nothing, Whole, Refused}
 use Rattle.trace_log.specs.declared.reader.Reader.{Reader}
 use Rattle.trace_log.specs.Item.{Item, item, target}
 use Rattle.trace_log.specs.Format.{body, encode, Small, Writable}
@@ -25,10 +24,10 @@ abbrev pub Refuses : Front → ReaderFault → Type 0
 Refuses front f = (front ≡ refused f) ⊎ ((f ≡ Entry NoMemory) × ((p : ℕ) × ((t : ℕ) × ((ts : List ℕ) × ((rest : List ℕ) × (front ≡ got (target p (t ∷ ts)) rest))))))
 
 -- what stands at the front of some bytes: nothing, a record byte for byte, or what is refused
-abbrev pub Finds : List ℕ → Found → Type 0
-Finds bs Nothing = bs ≡ []
-Finds bs (Whole x after) = (bs ≡ encode (item x) ++ after.now) × Writable (item x)
-Finds bs (Refused f) = Refuses (decode bs) f
+abbrev pub Finds : List ℕ → Result (Option (Record × Bor (List ℕ))) ReaderFault → Type 0
+Finds bs (Ok None) = bs ≡ []
+Finds bs (Ok (Some p)) = (bs ≡ encode (item p.0) ++ p.1.now) × Writable (item p.0)
+Finds bs (Err f) = Refuses (decode bs) f
 
 -- one call of next: its answer and the bytes that are left, by the bytes that stood there
 abbrev pub Next : List ℕ → List ℕ → Result (Option Record) ReaderFault → Type 0

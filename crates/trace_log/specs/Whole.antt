@@ -1,8 +1,7 @@
 -- A whole log: its records with their places, and the refusal that ends it, if any.
-use Rattle.std.specs.Prelude.{◌≡◌, ℕ, suc, ◌+◌, ◌-◌, List, [], ◌∷◌, map, length, Some, None, Ok, Err, vec_items, Option, Result, Vec, ◌≢◌}
+use Rattle.std.specs.Prelude.{◌≡◌, ℕ, suc, ◌+◌, ◌-◌, List, [], ◌∷◌, map, length, Some, None, Ok, Err, vec_items, Option, Result, ◌≢◌}
 use Rattle.std.specs.Option.{option_map}
 use Rattle.std.specs.declared.alloc.AllocError.{AllocError}
-use Rattle.std.specs.declared.alloc.Global.{Global}
 use Rattle.std.specs.List.{AllByRecursion}
 use Rattle.faults.specs.declared.EntryFault.{EntryFault}
 use Rattle.faults.specs.declared.ReaderFault.{ReaderFault}
@@ -64,7 +63,7 @@ placed place (i ∷ is) = record { place = place; says = i } ∷ placed (place +
 abbrev pub ReturnedAll : List ℕ → Contents → Type 0
 ReturnedAll log c = (is : List Item) → AllByRecursion Writable is → log ≡ log_of is → (records_of c ≡ placed 1 is) × (refusal_of c ≡ None)
 
--- what was read before a refusal, with it; no memory is no refusal
-abbrev pub Stopped : Vec Placed Global → ℕ → ReaderFault → Result Contents AllocError → Type 0
-Stopped records place fault (Ok c) = (c ≡ record { records = records; refusal = Some (record { place = place; fault = fault }) }) × ((f : EntryFault) → fault ≢ Entry f)
-Stopped records place fault (Err _) = (f : EntryFault) × (fault ≡ Entry f)
+-- the refusal that ends a log; no memory is no refusal
+abbrev pub Stops : ℕ → ReaderFault → Result Refusal AllocError → Type 0
+Stops place fault (Ok r) = (r ≡ record { place = place; fault = fault }) × ((f : EntryFault) → fault ≢ Entry f)
+Stops place fault (Err _) = (f : EntryFault) × (fault ≡ Entry f)

@@ -1,6 +1,6 @@
 // A whole log.
 ghost use Rattle.std.specs.Prelude.{◌≡◌, IfOk};
-ghost use Rattle.trace_log.specs.Whole.{ReadsLog, Stopped, StoodAll, ReturnedAll, records_of, refusal_of};
+ghost use Rattle.trace_log.specs.Whole.{ReadsLog, Stops, StoodAll, ReturnedAll, records_of, refusal_of};
 
 use crate::reader::Reader;
 use crate::record::Record;
@@ -28,19 +28,14 @@ pub struct Contents<'a> {
     pub refusal: Option<Refusal>,
 }
 
-// What was read before a record that is refused. Want of memory is no refusal.
-fn stopped<'a>(
-    records: Vec<Placed<'a>>,
-    place: usize,
-    fault: ReaderFault,
-) -> Result<Contents<'a>, AllocError>
-    ensures { Stopped records.entry place fault result }
+// The refusal of the record at a place. Want of memory is no refusal.
+fn refused(place: usize, fault: ReaderFault) -> Result<Refusal, AllocError>
+    ensures { Stops place fault result }
 {
-    if let ReaderFault::Entry(_) = fault {
-        return Err(AllocError);
+    match fault {
+        ReaderFault::Entry(_) => Err(AllocError),
+        _ => Ok(Refusal { place, fault }),
     }
-    let refusal = Some(Refusal { place, fault });
-    Ok(Contents { records, refusal })
 }
 
 // Reads a log to its end, or to the record that is refused.
@@ -52,20 +47,18 @@ pub fn read_all<'a>(heap: Global, log: &'a [u8]) -> Result<Contents<'a>, AllocEr
     let mut records = Vec::new(heap);
     let mut reader = match Reader::open(log) {
         Ok(reader) => reader,
-        Err(fault) => return stopped(records, 0, fault),
+        Err(fault) => {
+            let refusal = Some(refused(0, fault)?);
+            return Ok(Contents { records, refusal });
+        }
     };
-    loop {
+    let refusal = loop {
         let place = reader.place();
-        let found = match reader.next(heap) {
-            Ok(found) => found,
-            Err(fault) => return stopped(records, place, fault),
-        };
-        let Some(record) = found else {
-            return Ok(Contents {
-                records,
-                refusal: None,
-            });
-        };
-        records.push(Placed { place, record })?;
-    }
+        match reader.next(heap) {
+            Ok(Some(record)) => records.push(Placed { place, record })?,
+            Ok(None) => break None,
+            Err(fault) => break Some(refused(place, fault)?),
+        }
+    };
+    Ok(Contents { records, refusal })
 }

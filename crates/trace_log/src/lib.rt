@@ -2,6 +2,8 @@
 #![tactic(auto)]
 
 pub mod contents;
+mod front;
+mod number;
 mod parse;
 pub mod reader;
 pub mod record;

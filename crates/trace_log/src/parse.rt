@@ -1,79 +1,26 @@
 // One record from its letter and the bytes that follow the letter.
-ghost use Rattle.std.specs.Prelude.{◌≡◌, ◌%◌, ◌^◌, ◌<◌, ◌≤◌, ◌++◌, length, MatchResult};
+ghost use Rattle.std.specs.Prelude.{◌≡◌, ◌≢◌, ◌%◌, ◌^◌, ◌<◌, ◌≤◌, ◌++◌, length, MatchResult};
 ghost use Rattle.std.specs.List.{flat_map, AllByRecursion};
+ghost use Rattle.faults.specs.declared.ReaderFault.TheVariants.{BadLength};
 ghost use Rattle.trace_log.specs.Format.{big};
 ghost use Rattle.trace_log.specs.Reading.{Parses};
 
+use crate::number::{Number, field, last_field};
 use crate::record::Record;
 use faults::ReaderFault;
 use std::alloc::{AllocError, Global};
 
-// One byte, and the rest.
-fn u8_field(bytes: &[u8]) -> (u8, &[u8])
-    requires { 1 ≤ length bytes.now }
-    ensures { bytes.now ≡ big 1 result.0 ++ result.1.now }
-{
-    let [a, rest @ ..] = bytes else { unreachable() };
-    (*a, rest)
-}
-
-// A number of two bytes, and the rest.
-fn u16_field(bytes: &[u8]) -> (u16, &[u8])
-    requires { 2 ≤ length bytes.now }
-    ensures { bytes.now ≡ big 2 result.0 ++ result.1.now }
-{
-    let [a, b, rest @ ..] = bytes else {
-        unreachable()
-    };
-    (u16::from_be_bytes([*a, *b]), rest)
-}
-
-// A number of four bytes, and the rest.
-fn u32_field(bytes: &[u8]) -> (u32, &[u8])
-    requires { 4 ≤ length bytes.now }
-    ensures { bytes.now ≡ big 4 result.0 ++ result.1.now }
-{
-    let [a, b, c, d, rest @ ..] = bytes else {
-        unreachable()
-    };
-    (u32::from_be_bytes([*a, *b, *c, *d]), rest)
-}
-
-// A number of eight bytes, and the rest.
-fn u64_field(bytes: &[u8]) -> (u64, &[u8])
-    requires { 8 ≤ length bytes.now }
-    ensures { bytes.now ≡ big 8 result.0 ++ result.1.now }
-{
-    let [a, b, c, d, e, f, g, h, rest @ ..] = bytes else {
-        unreachable()
-    };
-    (u64::from_be_bytes([*a, *b, *c, *d, *e, *f, *g, *h]), rest)
-}
-
 fn birth(fields: &[u8]) -> Result<Record<'_>, ReaderFault>
     ensures { Parses 66 fields.now result }
 {
-    if fields.len() != 10 {
-        return Err(ReaderFault::BadLength);
-    }
-    let (process, rest) = u32_field(fields);
-    let (parent, rest) = u32_field(rest);
-    let (target, _) = u16_field(rest);
+    let (process, rest) = field(fields)?;
+    let (parent, rest) = field(rest)?;
+    let target = last_field(rest)?;
     Ok(Record::Birth {
         process,
         parent,
         target,
     })
-}
-
-fn make(fields: &[u8]) -> Result<Record<'_>, ReaderFault>
-    ensures { Parses 77 fields.now result }
-{
-    if fields.len() != 4 {
-        return Err(ReaderFault::BadLength);
-    }
-    let (process, _) = u32_field(fields);
-    Ok(Record::Make { process })
 }
 
 // The numbers in pairs of bytes.
@@ -82,11 +29,9 @@ fn numbers(heap: Global, bytes: &[u8]) -> Result<Vec<u16>, AllocError>
     ensures { MatchResult result (λ v. (bytes.now ≡ flat_map (big 2) v.items) × AllByRecursion (λ t. t < 2 ^ 16) v.items) (λ _. 2 ≤ length bytes.now) }
 {
     let mut all = Vec::new(heap);
-    let mut left = bytes;
-    while left.len() >= 2 {
-        let (n, rest) = u16_field(left);
-        all.push(n)?;
-        left = rest;
+    let (pairs, _) = bytes.as_chunks::<2>();
+    for pair in pairs {
+        all.push(u16::from_bytes(pair))?;
     }
     Ok(all)
 }
@@ -94,11 +39,8 @@ fn numbers(heap: Global, bytes: &[u8]) -> Result<Vec<u16>, AllocError>
 fn target(heap: Global, fields: &[u8]) -> Result<Record<'_>, ReaderFault>
     ensures { Parses 84 fields.now result }
 {
-    if fields.len() < 5 {
-        return Err(ReaderFault::BadLength);
-    }
-    let (process, rest) = u32_field(fields);
-    let (count, rest) = u8_field(rest);
+    let (process, rest) = field(fields)?;
+    let (count, rest) = field::<u8, 1>(rest)?;
     if rest.len() != 2 * usize::from(count) {
         return Err(ReaderFault::BadLength);
     }
@@ -109,135 +51,39 @@ fn target(heap: Global, fields: &[u8]) -> Result<Record<'_>, ReaderFault>
     })
 }
 
-fn death(fields: &[u8]) -> Result<Record<'_>, ReaderFault>
-    ensures { Parses 68 fields.now result }
+// What an access to an inode begins with: process, device, inode; and the rest.
+fn access(fields: &[u8]) -> Result<(u32, u32, u64, &[u8]), ReaderFault>
+    ensures { MatchResult result (λ a. fields.now ≡ big 4 a.0 ++ (big 4 a.1 ++ (big 8 a.2 ++ a.3.now))) (λ f. (f ≡ BadLength) × (length fields.now < 16)) }
 {
-    if fields.len() != 4 {
-        return Err(ReaderFault::BadLength);
-    }
-    let (process, _) = u32_field(fields);
-    Ok(Record::Death { process })
-}
-
-// What an access to an inode begins with, and the rest.
-struct Inode<'a> {
-    process: u32,
-    device: u32,
-    inode: u64,
-    rest: &'a [u8],
-}
-
-fn inode_fields(fields: &[u8]) -> Inode<'_>
-    requires { 16 ≤ length fields.now }
-    ensures { fields.now ≡ big 4 result.process ++ (big 4 result.device ++ (big 8 result.inode ++ result.rest.now)) }
-{
-    let (process, rest) = u32_field(fields);
-    let (device, rest) = u32_field(rest);
-    let (inode, rest) = u64_field(rest);
-    Inode {
-        process,
-        device,
-        inode,
-        rest,
-    }
-}
-
-fn read(fields: &[u8]) -> Result<Record<'_>, ReaderFault>
-    ensures { Parses 82 fields.now result }
-{
-    if fields.len() < 16 {
-        return Err(ReaderFault::BadLength);
-    }
-    let Inode {
-        process,
-        device,
-        inode,
-        rest,
-    } = inode_fields(fields);
-    Ok(Record::Read {
-        process,
-        device,
-        inode,
-        path: rest,
-    })
-}
-
-fn write(fields: &[u8]) -> Result<Record<'_>, ReaderFault>
-    ensures { Parses 87 fields.now result }
-{
-    if fields.len() < 16 {
-        return Err(ReaderFault::BadLength);
-    }
-    let Inode {
-        process,
-        device,
-        inode,
-        rest,
-    } = inode_fields(fields);
-    Ok(Record::Write {
-        process,
-        device,
-        inode,
-        path: rest,
-    })
-}
-
-fn exists(fields: &[u8]) -> Result<Record<'_>, ReaderFault>
-    ensures { Parses 75 fields.now result }
-{
-    if fields.len() < 4 {
-        return Err(ReaderFault::BadLength);
-    }
-    let (process, path) = u32_field(fields);
-    Ok(Record::Exists { process, path })
+    let (process, rest) = field(fields)?;
+    let (device, rest) = field(rest)?;
+    let (inode, rest) = field(rest)?;
+    Ok((process, device, inode, rest))
 }
 
 fn removal(fields: &[u8]) -> Result<Record<'_>, ReaderFault>
     ensures { Parses 85 fields.now result }
 {
-    if fields.len() < 17 {
+    let (process, device, inode, rest) = access(fields)?;
+    let [last @ (0 | 1), path @ ..] = rest else {
         return Err(ReaderFault::BadLength);
-    }
-    let Inode {
-        process,
-        device,
-        inode,
-        rest,
-    } = inode_fields(fields);
-    let (released, path) = u8_field(rest);
-    if released > 1 {
-        return Err(ReaderFault::BadLength);
-    }
-    let last = released == 1;
+    };
     Ok(Record::Removal {
         process,
         device,
         inode,
-        last,
+        last: *last == 1,
         path,
     })
 }
 
-fn post(fields: &[u8]) -> Result<Record<'_>, ReaderFault>
-    ensures { Parses 70 fields.now result }
+// A process and a flag.
+fn flagged(fields: &[u8]) -> Result<(u32, u8), ReaderFault>
+    ensures { MatchResult result (λ a. fields.now ≡ big 4 a.0 ++ big 1 a.1) (λ f. (f ≡ BadLength) × (length fields.now ≢ 5)) }
 {
-    if fields.len() != 5 {
-        return Err(ReaderFault::BadLength);
-    }
-    let (process, rest) = u32_field(fields);
-    let (flag, _) = u8_field(rest);
-    Ok(Record::Post { process, flag })
-}
-
-fn wait(fields: &[u8]) -> Result<Record<'_>, ReaderFault>
-    ensures { Parses 65 fields.now result }
-{
-    if fields.len() != 5 {
-        return Err(ReaderFault::BadLength);
-    }
-    let (process, rest) = u32_field(fields);
-    let (flag, _) = u8_field(rest);
-    Ok(Record::Await { process, flag })
+    let (process, rest) = field(fields)?;
+    let flag = last_field(rest)?;
+    Ok((process, flag))
 }
 
 // The record of a letter; 19 for a letter that no record has, else 20 for a length that does not fit the letter.
@@ -246,15 +92,25 @@ pub fn parse(heap: Global, letter: u8, fields: &[u8]) -> Result<Record<'_>, Read
 {
     match letter {
         b'B' => birth(fields),
-        b'M' => make(fields),
+        b'M' => last_field(fields).map(|process| Record::Make { process }),
         b'T' => target(heap, fields),
-        b'D' => death(fields),
-        b'R' => read(fields),
-        b'W' => write(fields),
-        b'K' => exists(fields),
+        b'D' => last_field(fields).map(|process| Record::Death { process }),
+        b'R' => access(fields).map(|(process, device, inode, path)| Record::Read {
+            process,
+            device,
+            inode,
+            path,
+        }),
+        b'W' => access(fields).map(|(process, device, inode, path)| Record::Write {
+            process,
+            device,
+            inode,
+            path,
+        }),
+        b'K' => field(fields).map(|(process, path)| Record::Exists { process, path }),
         b'U' => removal(fields),
-        b'F' => post(fields),
-        b'A' => wait(fields),
+        b'F' => flagged(fields).map(|(process, flag)| Record::Post { process, flag }),
+        b'A' => flagged(fields).map(|(process, flag)| Record::Await { process, flag }),
         _ => Err(ReaderFault::UnknownLetter),
     }
 }

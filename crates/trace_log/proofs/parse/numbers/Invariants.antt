@@ -1,9 +1,6 @@
-use Rattle.std.proofs.Common.{length, vec_items}
-use Rattle.trace_log.proofs.Joins.{Paired}
+use Rattle.std.proofs.Common.{take, vec_items}
+use Rattle.trace_log.proofs.Joins.{Joined}
 use Rattle.trace_log.proofs.parse.numbers.Given as goal
 
-abbrev pub invariant-loop-left : goal.invariant-loop-left
-invariant-loop-left l = Paired l.bytes (vec_items l.all) l.left
-
-abbrev pub decreases-loop-left : goal.decreases-loop-left
-decreases-loop-left l = length l.left
+abbrev pub invariant-loop-pair : goal.invariant-loop-pair
+invariant-loop-pair l = Joined (take l.pair-index l.pairs) (vec_items l.all)
