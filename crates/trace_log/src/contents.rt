@@ -1,5 +1,5 @@
 // A whole log.
-ghost use Rattle.std.specs.Prelude.{◌≡◌, IfOk};
+ghost use Rattle.std.specs.Prelude.{IfOk};
 ghost use Rattle.trace_log.specs.Whole.{ReadsLog, Stops, StoodAll, ReturnedAll, records_of, refusal_of};
 
 use crate::reader::Reader;

@@ -2,6 +2,7 @@
 #[derive(Drop)]
 pub enum Record<'a> {
     // B: a process is born, of a parent (0 for the session) and for a target (0 for none).
+    // The zeros stay zeros: a record says the numbers that the format has.
     Birth {
         process: u32,
         parent: u32,

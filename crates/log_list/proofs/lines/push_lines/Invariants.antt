@@ -1,8 +1,0 @@
-use Rattle.std.proofs.Common.{◌≡◌, ◌++◌, take, vec_items}
-use Rattle.std.specs.List.{flat_map}
-use Rattle.trace_log.specs.Whole.{record_of}
-use Rattle.log_list.specs.Lines.{line}
-use Rattle.log_list.proofs.lines.push_lines.Given as goal
-
-abbrev pub invariant-loop-placed : goal.invariant-loop-placed
-invariant-loop-placed l = vec_items l.out ≡ vec_items l.initial.out ++ flat_map (λ p. line (record_of p)) (take l.placed-index l.records)
