@@ -1,9 +1,9 @@
 -- Why the checks of a history are enough: the critical-access argument.
 use Rattle.std.proofs.Common.{◌≡◌, ℕ, ◌+◌, ◌*◌, ◌<◌, ◌≤◌, Bool, true, false, cond, eqb, ◌⊎◌, List, [], ◌∷◌, ◌++◌, reverse, length, get_or, Some, None, Option, sym, refl, ap, ◌∙◌, subst, subst₂, inl, inr, ⊎_elim, arith}
-use Rattle.std.proofs.ByRecursion.{all-has, All-weaker, all_has_itself, has_append_left, has_push, has_push_cases}
-use Rattle.std.proofs.lemmas.List.{length_push, length-reverse, get_or_push, get_or_append_left}
+use Rattle.std.proofs.lemmas.List.Elements.{All-contains, All-head, All-tail, Contains-append_left, Contains-get_or, Contains-push, Contains-push_cases}
+use Rattle.std.proofs.lemmas.List.{length_push, length-reverse, get_or_append_left, get_or_default, get_or_push}
 use Rattle.std.proofs.lemmas.Bool.{false≢true, cond_both, or_cases, or_left, or_right}
-use Rattle.std.specs.List.{ContainsAt as Has, AllByRecursion}
+use Rattle.std.specs.List.{All, Contains}
 use Rattle.std.specs.Option.{option_to_list}
 use Rattle.order.specs.declared.Timestamp.{Timestamp}
 use Rattle.order.specs.Meaning.{Meaning, Lawful}
@@ -13,26 +13,26 @@ use Rattle.histories.specs.declared.accesses.Kind.TheVariants.{Read}
 use Rattle.histories.specs.declared.accesses.Race.{Race}
 use Rattle.histories.specs.Histories.{Kept, asked, first_failing, first_race, found, after}
 use Rattle.histories.specs.Judged.{Entered, none, moved, more, conflict, InOrder, RaceOf, Judged}
-use Rattle.histories.proofs.Asked.{has_none, has_some, some_has, all_passed, one_failed, asks_since, asks_last, asks_only}
+use Rattle.histories.proofs.Asked.{contains_none, contains_some, some_contains, all_passed, one_failed, asks_since, asks_last, asks_only}
 use Rattle.histories.proofs.First.{Steady, steady_self, steady_on, first_none, first_some, decides_failed, cases_failed}
-use Rattle.histories.proofs.Pairs.{twos_push}
+use Rattle.std.proofs.lemmas.List.Quantifiers.{all_pairs_push}
 
 module _ (critical : Kind → Bool) (before : Timestamp → Timestamp → Bool) where
   -- an access of the list, with this timestamp
   abbrev From : List Access → Timestamp → Type 0
-  From es t = (e : Access) × Has es e × (e.at ≡ t)
+  From es t = (e : Access) × Contains es e × (e.at ≡ t)
 
   -- a critical one
   abbrev FromCritical : List Access → Timestamp → Type 0
-  FromCritical es t = (e : Access) × Has es e × (e.at ≡ t) × (critical e.kind ≡ true)
+  FromCritical es t = (e : Access) × Contains es e × (e.at ≡ t) × (critical e.kind ≡ true)
 
   -- one of the list that conflicts with a new one
   abbrev Rival : List Access → Access → Timestamp → Type 0
-  Rival es a t = (e : Access) × Has es e × (e.at ≡ t) × (conflict critical e a ≡ true)
+  Rival es a t = (e : Access) × Contains es e × (e.at ≡ t) × (conflict critical e a ≡ true)
 
   -- An access is past if it waits for the next critical one, or is the last critical one or before it.
   abbrev Past : Kept → Access → Type 0
-  Past k e = ((critical e.kind ≡ false) × Has k.since e.at) ⊎ ((c : Timestamp) × (k.critical ≡ Some c) × ((e.at ≡ c) ⊎ (before e.at c ≡ true)))
+  Past k e = ((critical e.kind ≡ false) × Contains k.since e.at) ⊎ ((c : Timestamp) × (k.critical ≡ Some c) × ((e.at ≡ c) ⊎ (before e.at c ≡ true)))
 
   -- two accesses, the earlier first: if they conflict, they are in order
   abbrev Fits : Access → Access → Type 0
@@ -41,12 +41,12 @@ module _ (critical : Kind → Bool) (before : Timestamp → Timestamp → Bool) 
   -- while no check has failed
   record Clean (es : List Access) (k : Kept) : Type 0 where
     ordered : InOrder critical before es
-    past : (e : Access) → Has es e → Past k e
-    since_last : (c t : Timestamp) → k.critical ≡ Some c → Has k.since t → before c t ≡ true
+    past : (e : Access) → Contains es e → Past k e
+    since_last : (c t : Timestamp) → k.critical ≡ Some c → Contains k.since t → before c t ≡ true
 
   record Sound (es : List Access) (k : Kept) : Type 0 where
     last_from : (c : Timestamp) → k.critical ≡ Some c → FromCritical es c
-    since_from : (t : Timestamp) → Has k.since t → From es t
+    since_from : (t : Timestamp) → Contains k.since t → From es t
     shown : (r : Race) → k.failed ≡ Some r → RaceOf critical before es r
     clean : k.failed ≡ None → Clean es k
 
@@ -76,7 +76,7 @@ module _ (critical : Kind → Bool) (before : Timestamp → Timestamp → Bool) 
         let size = length_push es a in
         let i = v.1.0 in
         let inside : i < length es = v.1.1 in
-        let old : (d : Access) → get_or (es ++ a ∷ []) i d ≡ v.0 = λ d. get_or_append_left es (a ∷ []) d i inside ∙ v.1.2 d in
+        let old : (d : Access) → get_or (es ++ a ∷ []) i d ≡ v.0 = λ d. get_or_append_left es (a ∷ []) d i inside ∙ get_or_default es i d v.0 inside ∙ v.1.2 in
         let new : (d : Access) → get_or (es ++ a ∷ []) (length es) d ≡ a = λ d. get_or_push es a d (length es) refl in
         record {
           i = i;
@@ -90,13 +90,13 @@ module _ (critical : Kind → Bool) (before : Timestamp → Timestamp → Bool) 
         }
 
     -- each whom the new one is asked against conflicts with it
-    rival : (c : Bool) → critical a.kind ≡ c → (t : Timestamp) → Has (asked c k) t → Rival es a t
+    rival : (c : Bool) → critical a.kind ≡ c → (t : Timestamp) → Contains (asked c k) t → Rival es a t
     rival true is t h =
         ⊎_elim
         (λ w. let f = s.since_from t w in (f.0, f.1, f.2, or_right (critical f.0.kind) _ is))
         (λ w. let f = s.last_from t w in (f.0, f.1, f.2, or_left _ _ f.3))
         (asks_only k t h)
-    rival false is t h = let f = s.last_from t (some_has k.critical t h) in (f.0, f.1, f.2, or_left _ _ f.3)
+    rival false is t h = let f = s.last_from t (some_contains k.critical t h) in (f.0, f.1, f.2, or_left _ _ f.3)
 
     -- all checks passed
     module _ (cl : Clean es k) where
@@ -105,25 +105,25 @@ module _ (critical : Kind → Bool) (before : Timestamp → Timestamp → Bool) 
       upto e c (inr less) h = chained e.at c a.at less h
 
       -- then each earlier one that conflicts with the new one is before it
-      before_new : (c : Bool) → critical a.kind ≡ c → AllByRecursion (λ t. before t a.at ≡ true) (asked c k) → (e : Access) → Has es e → conflict critical e a ≡ true → before e.at a.at ≡ true
+      before_new : (c : Bool) → critical a.kind ≡ c → All (λ t. before t a.at ≡ true) (asked c k) → (e : Access) → Contains es e → conflict critical e a ≡ true → before e.at a.at ≡ true
       before_new true is passed e h _ =
           ⊎_elim
-          (λ w. all-has _ (asked true k) e.at passed (asks_since k e.at w.1))
+          (λ w. All-contains (λ t. before t a.at ≡ true) (asked true k) e.at passed (asks_since k e.at w.1))
           (λ w. upto e w.0 w.2
           (⊎_elim
-          (λ v. chained w.0 v.0 a.at (cl.since_last w.0 v.0 w.1 v.1) (all-has _ (asked true k) v.0 passed v.2))
-          (λ v. all-has _ (asked true k) w.0 passed v)
+          (λ v. chained w.0 v.0 a.at (cl.since_last w.0 v.0 w.1 v.1) (All-contains (λ t. before t a.at ≡ true) (asked true k) v.0 passed v.2))
+          (λ v. All-contains (λ t. before t a.at ≡ true) (asked true k) w.0 passed v)
           (asks_last k w.0 w.1)))
           (cl.past e h)
       before_new false is passed e h conflicting =
           ⊎_elim
           (λ w. absurd (⊎_elim (λ y. false≢true (sym w.0 ∙ y)) (λ y. false≢true (sym is ∙ y)) (or_cases _ _ conflicting)))
-          (λ w. upto e w.0 w.2 (all-has _ (option_to_list k.critical) w.0 passed (has_some k.critical w.0 w.1)))
+          (λ w. upto e w.0 w.2 (All-contains (λ t. before t a.at ≡ true) (option_to_list k.critical) w.0 passed (contains_some k.critical w.0 w.1)))
           (cl.past e h)
 
-      still_clean : (c : Bool) → critical a.kind ≡ c → AllByRecursion (λ t. before t a.at ≡ true) (asked c k) → Clean (es ++ a ∷ []) (after before c k a.at)
+      still_clean : (c : Bool) → critical a.kind ≡ c → All (λ t. before t a.at ≡ true) (asked c k) → Clean (es ++ a ∷ []) (after before c k a.at)
       still_clean true is passed = record {
-        ordered = twos_push Fits es a cl.ordered (before_new true is passed);
+        ordered = all_pairs_push Fits es a cl.ordered (λ k d l. before_new true is passed (get_or es k d) (Contains-get_or es k d l));
         past = λ e h.
             inr (
               a.at,
@@ -131,22 +131,22 @@ module _ (critical : Kind → Bool) (before : Timestamp → Timestamp → Bool) 
               ⊎_elim
                   (λ old. inr (before_new true is passed e old (or_right (critical e.kind) _ is)))
                   (λ new. inl (ap (λ f. f.at) (sym new)))
-                  (has_push_cases es a e h),
+                  (Contains-push_cases es a e h),
             );
         since_last = λ c t _ h. absurd (omega (arith, h.1));
       }
       still_clean false is passed = record {
-        ordered = twos_push Fits es a cl.ordered (before_new false is passed);
+        ordered = all_pairs_push Fits es a cl.ordered (λ k d l. before_new false is passed (get_or es k d) (Contains-get_or es k d l));
         past = λ e h.
             ⊎_elim
-            (λ old. ⊎_elim (λ w. inl (w.0, has_append_left k.since (a.at ∷ []) e.at w.1)) inr (cl.past e old))
-            (λ new. inl (subst (λ f. (critical f.kind ≡ false) × Has (k.since ++ a.at ∷ []) f.at) new (is, has_push k.since a.at)))
-            (has_push_cases es a e h);
+            (λ old. ⊎_elim (λ w. inl (w.0, Contains-append_left k.since (a.at ∷ []) e.at w.1)) inr (cl.past e old))
+            (λ new. inl (subst (λ f. (critical f.kind ≡ false) × Contains (k.since ++ a.at ∷ []) f.at) new (is, Contains-push k.since a.at)))
+            (Contains-push_cases es a e h);
         since_last = λ c t last h.
             ⊎_elim
             (λ old. cl.since_last c t last old)
-            (λ new. subst (λ u. before c u ≡ true) new (all-has _ (option_to_list k.critical) c passed (has_some k.critical c last)))
-            (has_push_cases k.since a.at t h);
+            (λ new. subst (λ u. before c u ≡ true) new (All-contains (λ t. before t a.at ≡ true) (option_to_list k.critical) c passed (contains_some k.critical c last)))
+            (Contains-push_cases k.since a.at t h);
       }
 
     -- one access more
@@ -164,26 +164,26 @@ module _ (critical : Kind → Bool) (before : Timestamp → Timestamp → Bool) 
 
     sound_after : (c : Bool) → critical a.kind ≡ c → Sound (es ++ a ∷ []) (after before c k a.at)
     sound_after true is = record {
-      last_from = λ t e. let same : a.at ≡ t = cc in (a, has_push es a, same, is);
+      last_from = λ t e. let same : a.at ≡ t = cc in (a, Contains-push es a, same, is);
       since_from = λ t h. absurd (omega (arith, h.1));
       shown = shown_after true is;
       clean = clean_after true is;
     }
     sound_after false is = record {
-      last_from = λ t e. let f = s.last_from t e in (f.0, has_append_left es (a ∷ []) f.0 f.1, f.2, f.3);
+      last_from = λ t e. let f = s.last_from t e in (f.0, Contains-append_left es (a ∷ []) f.0 f.1, f.2, f.3);
       since_from = λ t h.
           ⊎_elim
-          (λ old. let f = s.since_from t old in (f.0, has_append_left es (a ∷ []) f.0 f.1, f.2))
-          (λ new. (a, has_push es a, new))
-          (has_push_cases k.since a.at t h);
+          (λ old. let f = s.since_from t old in (f.0, Contains-append_left es (a ∷ []) f.0 f.1, f.2))
+          (λ new. (a, Contains-push es a, new))
+          (Contains-push_cases k.since a.at t h);
       shown = shown_after false is;
       clean = clean_after false is;
     }
 
 -- the answers decide what is kept
-same_failing : (b p : Timestamp → Timestamp → Bool) (x : Timestamp) (ts : List Timestamp) → AllByRecursion (λ t. b t x ≡ p t x) ts → first_failing b ts x ≡ first_failing p ts x
+same_failing : (b p : Timestamp → Timestamp → Bool) (x : Timestamp) (ts : List Timestamp) → All (λ t. b t x ≡ p t x) ts → first_failing b ts x ≡ first_failing p ts x
 same_failing b p x [] h = refl
-same_failing b p x (t ∷ ts) h = let rest = same_failing b p x ts h.1 in let one = h.0 in λ i. cond (one i) (rest i) (Some t)
+same_failing b p x (t ∷ ts) h = let rest = same_failing b p x ts (All-tail (λ u. b u x ≡ p u x) t ts h) in let one = All-head (λ u. b u x ≡ p u x) t ts h in λ i. cond (one i) (rest i) (Some t)
 
 same_after : (b p : Timestamp → Timestamp → Bool) (c : Bool) (k : Kept) (x : Timestamp) → first_failing b (asked c k) x ≡ first_failing p (asked c k) x → after b c k x ≡ after p c k x
 same_after b p true k x e = ap (λ f. record { critical = Some x; since = []; failed = first_race k.failed f x }) e
@@ -192,17 +192,17 @@ same_after b p false k x e = ap (λ f. record { critical = k.critical; since = k
 module _ (critical : Kind → Bool) (z : Meaning) (lawful : Lawful z) where
   -- all accesses are known, and what is kept is sound by the order as it is in the end
   run_sound : {x : Meaning} {es : List Access} {k : Kept} {n : ℕ} → Entered critical x es k n → Steady x z
-      → ((e : Access) → Has es e → x.known e.at ≡ true) × Sound critical z.before es k
+      → ((e : Access) → Contains es e → x.known e.at ≡ true) × Sound critical z.before es k
   run_sound none on = (
-    λ e h. absurd (has_none e h),
+    λ e h. absurd (contains_none e h),
     record {
-      last_from = λ t e. let z : ◌≡◌ {A = ℕ} 0 1 = cc in absurd (omega arith);
-      since_from = λ t h. absurd (has_none t h);
-      shown = λ r e. let z : ◌≡◌ {A = ℕ} 0 1 = cc in absurd (omega arith);
+      last_from = λ t e. cc;
+      since_from = λ t h. absurd (contains_none t h);
+      shown = λ r e. cc;
       clean = λ _. record {
         ordered = λ i j d less within. absurd (omega arith);
-        past = λ e h. absurd (has_none e h);
-        since_last = λ c t _ h. absurd (has_none t h);
+        past = λ e h. absurd (contains_none e h);
+        since_last = λ c t _ h. absurd (contains_none t h);
       };
     },
   )
@@ -210,12 +210,12 @@ module _ (critical : Kind → Bool) (z : Meaning) (lawful : Lawful z) where
   run_sound (more {x = x} {es = es} {k = k} run a known) on =
       let h = run_sound run on in
       let c = critical a.kind in
-      let steady : (t : Timestamp) → Has (asked c k) t → z.before t a.at ≡ x.before t a.at =
+      let steady : (t : Timestamp) → Contains (asked c k) t → z.before t a.at ≡ x.before t a.at =
       λ t has. let v = rival critical z.before lawful.chained es k h.1 a c refl t has in
       on.before_stays t a.at (subst (λ u. x.known u ≡ true) v.2 (h.0 v.0 v.1)) known in
       let same : first_failing z.before (asked c k) a.at ≡ first_failing x.before (asked c k) a.at =
-      same_failing z.before x.before a.at (asked c k) (All-weaker (Has (asked c k)) _ steady (asked c k) (all_has_itself (asked c k))) in (
-        λ e has. ⊎_elim (h.0 e) (λ new. subst (λ f. x.known f.at ≡ true) new known) (has_push_cases es a e has),
+      same_failing z.before x.before a.at (asked c k) (λ n d l. steady (get_or (asked c k) n d) (Contains-get_or (asked c k) n d l)) in (
+        λ e has. ⊎_elim (h.0 e) (λ new. subst (λ f. x.known f.at ≡ true) new known) (Contains-push_cases es a e has),
         subst (Sound critical z.before (es ++ a ∷ [])) (same_after z.before x.before c k a.at same)
             (sound_after critical z.before lawful.chained es k h.1 a c refl),
       )

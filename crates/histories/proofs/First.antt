@@ -1,5 +1,5 @@
 -- What the law of a run rests on: an order that moves on, and a first failing pair that stays.
-use Rattle.std.proofs.Common.{◌≡◌, ℕ, true, not, is_some, IfSome, Some, None, Decides, Option, refl, ◌∙◌, subst, arith}
+use Rattle.std.proofs.Common.{◌≡◌, true, not, is_some, IfSome, Some, None, Decides, Option, refl, ◌∙◌, subst}
 use Rattle.std.proofs.lemmas.Bool.{false≢true}
 use Rattle.order.specs.declared.Timestamp.{Timestamp}
 use Rattle.order.specs.Meaning.{Meaning, Advanced}
@@ -23,13 +23,13 @@ steady_on x y z on s = record {
 -- the failing pair after: the one that there was, or the new one
 pub first_none : (o : Option Race) (f : Option Timestamp) (x : Timestamp) → first_race o f x ≡ None → (o ≡ None) × (f ≡ None)
 first_none None None x e = (refl, refl)
-first_none None (Some t) x e = let z : ◌≡◌ {A = ℕ} 0 1 = cc in absurd (omega arith)
-first_none (Some r) f x e = let z : ◌≡◌ {A = ℕ} 0 1 = cc in absurd (omega arith)
+first_none None (Some t) x e = cc
+first_none (Some r) f x e = cc
 
 pub first_some : (P : Race → Type 0) (o : Option Race) (f : Option Timestamp) (x : Timestamp) → ((r : Race) → o ≡ Some r → P r)
     → ((t : Timestamp) → f ≡ Some t → P (record { earlier = t; later = x })) → (r : Race) → first_race o f x ≡ Some r → P r
 first_some P (Some q) f x old new r e = old r e
-first_some P None None x old new r e = let z : ◌≡◌ {A = ℕ} 0 1 = cc in absurd (omega arith)
+first_some P None None x old new r e = cc
 first_some P None (Some t) x old new r e = let same : record { earlier = t; later = x } ≡ r = cc in subst P same (new t refl)
 
 -- what a failing pair, or none, tells

@@ -2,8 +2,5 @@ pub mod Asked
 pub mod Critical
 pub mod First
 pub mod Found
-pub mod Pairs
 pub mod Remaining
 pub mod Search
-pub mod Steps
-pub mod Turns

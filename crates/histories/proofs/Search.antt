@@ -1,23 +1,23 @@
 -- What a search finds is the first place that passes a test.
-use Rattle.std.proofs.Common.{◌≡◌, ℕ, zero, suc, ◌<◌, Bool, true, false, cond, List, [], ◌∷◌, map, length, get_or, Some, None, Option, sym, refl, ap, ◌∙◌, arith}
-use Rattle.std.specs.Option.{option_map}
-use Rattle.histories.specs.Keys.{Finds, position}
+use Rattle.std.proofs.Common.{◌≡◌, ℕ, Bool, true, false, List, map, length, Some, None, Option, position, unwrap_or, refl, arith}
+use Rattle.std.proofs.lemmas.Bool.Decides.{nat_tests}
+use Rattle.std.proofs.lemmas.Iterator.{index_from_first}
+use Rattle.std.proofs.lemmas.List.{length-map}
+use Rattle.std.specs.List.{position_or_len}
+use Rattle.histories.specs.Keys.{Finds}
 
-module _ {X Y : Type 0} (key : X → Y) (test : Y → Bool) where
-  none_there : (xs : List X) → ((n : ℕ) (d : X) → n < length xs → test (key (get_or xs n d)) ≡ false) → position test (map key xs) ≡ None
-  none_there [] h = refl
-  none_there (x ∷ xs) h =
-      ap (λ b. cond b (Some 0) (option_map suc (position test (map key xs)))) (h 0 x (omega arith)) ∙ ap (option_map suc) (none_there xs (λ n d l. h (suc n) d (omega arith)))
+-- where each answer is the test's
+pub found_position : {X Y : Type 0} (key : X → Y) (test : Y → Bool) (answers : X → Bool → Type 0) (xs : List X) (r : Option ℕ) → Finds answers xs r
+    → ((x : X) (b : Bool) → answers x b → test (key x) ≡ b) → r ≡ position test (map key xs)
+found_position {X} key test answers xs r found is = at r found (first r found)
+  where
+    before : List X → ℕ
+    before ys = position_or_len test (map key ys)
 
-  first_there : (xs : List X) (i : ℕ) → i < length xs → ((d : X) → test (key (get_or xs i d)) ≡ true) → ((n : ℕ) (d : X) → n < i → test (key (get_or xs n d)) ≡ false) → position test (map key xs) ≡ Some i
-  first_there [] i l here h = absurd (omega arith)
-  first_there (x ∷ xs) zero l here h = ap (λ b. cond b (Some 0) (option_map suc (position test (map key xs)))) (here x)
-  first_there (x ∷ xs) (suc i) l here h =
-      ap (λ b. cond b (Some 0) (option_map suc (position test (map key xs)))) (h 0 x (omega arith))
-      ∙ ap (option_map suc) (first_there xs i (omega arith) here (λ n d m. h (suc n) d (omega arith)))
+    first : (r : Option ℕ) → Finds answers xs r → before xs ≡ unwrap_or r (length xs)
+    first r found =
+        index_from_first before (λ x. answers x true) (λ x. answers x false) refl (λ x ys yes. rw (is x true yes) refl) (λ x ys no. rw (is x false no) (omega arith)) xs r found
 
-  -- where each answer is the test's
-  pub found_position : (answers : X → Bool → Type 0) (xs : List X) (r : Option ℕ) → Finds answers xs r → ((x : X) (b : Bool) → answers x b → test (key x) ≡ b) → r ≡ position test (map key xs)
-  found_position answers xs None h is = sym (none_there xs (λ n d l. is (get_or xs n d) false (h n d (omega arith) l)))
-  found_position answers xs (Some i) h is =
-      sym (first_there xs i h.0 (λ d. is (get_or xs i d) true (h.1 d)) (λ n d l. is (get_or xs n d) false (h.2 n d (omega arith) l)))
+    at : (r : Option ℕ) → Finds answers xs r → before xs ≡ unwrap_or r (length xs) → r ≡ position test (map key xs)
+    at None found e = let same = length-map xs key in grind (arith, nat_tests)
+    at (Some i) found e = let same = length-map xs key in let within = found.0 in grind (arith, nat_tests)

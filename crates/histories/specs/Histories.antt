@@ -1,6 +1,6 @@
 -- The history of one key, and what entering an access does: the exact account, which can be run.
-use Rattle.std.specs.Prelude.{ℕ, ◌+◌, Bool, true, false, cond, List, [], ◌∷◌, ◌++◌, reverse, length, Some, None, Option, ◌==◌}
-use Rattle.std.specs.Option.{option_or, option_to_list}
+use Rattle.std.specs.Prelude.{ℕ, Bool, true, false, cond, List, [], ◌∷◌, ◌++◌, reverse, length, Some, None, Option, ◌==◌}
+use Rattle.std.specs.Option.{option_to_list}
 use Rattle.order.specs.declared.Timestamp.{Timestamp}
 use Rattle.histories.specs.declared.accesses.Access.{Access}
 use Rattle.histories.specs.declared.accesses.Checked.{Checked}
@@ -31,10 +31,6 @@ first_failing before (t ∷ ts) x = cond (before t x) (first_failing before ts x
 -- What the checks against all of these find. Each counts as one.
 abbrev pub checked : (Timestamp → Timestamp → Bool) → List Timestamp → Timestamp → Checked
 checked before ts x = record { checks = length ts; failed = first_failing before ts x }
-
--- one check more: what failed first stays
-abbrev pub check_more : (Timestamp → Timestamp → Bool) → Checked → Timestamp → Timestamp → Checked
-check_more before c t x = record { checks = c.checks + 1; failed = option_or c.failed (cond (before t x) None (Some t)) }
 
 -- the number of the earlier access; 0 if there is none
 abbrev pub earlier_number : Option Timestamp → ℕ

@@ -1,5 +1,6 @@
 -- A directory's creation attempts and the lookups in it: the exact account, which can be run.
-use Rattle.std.specs.Prelude.{Bool, false, cond, ◌||◌, List, [], ◌∷◌, ◌++◌, reverse, Some, None, Option}
+use Rattle.std.specs.Prelude.{◌-◌, Bool, cond, List, [], ◌∷◌, ◌++◌, length, None, Option, slice_get}
+use Rattle.std.specs.List.{list_any}
 use Rattle.order.specs.declared.Timestamp.{Timestamp}
 use Rattle.histories.specs.declared.accesses.Race.{Race}
 use Rattle.histories.specs.Histories.{first_race}
@@ -21,17 +22,11 @@ untried = record { remaining = []; failed = None }
 
 -- whether one of them is before the new one
 abbrev pub any_before : (Timestamp → Timestamp → Bool) → List Timestamp → Timestamp → Bool
-any_before before [] x = false
-any_before before (t ∷ ts) x = before t x || any_before before ts x
-
--- the first element, if any
-abbrev pub first : List Timestamp → Option Timestamp
-first [] = None
-first (t ∷ ts) = Some t
+any_before before ts x = list_any (λ t. before t x) ts
 
 -- the last one, which is the newest, if any
 abbrev pub newest : List Timestamp → Option Timestamp
-newest ts = first (reverse ts)
+newest ts = slice_get ts (length ts - 1)
 
 -- The attempt that a lookup fails by. It fails if attempts remain and none of them is before it; then that is the newest.
 abbrev pub failed_lookup : (Timestamp → Timestamp → Bool) → List Timestamp → Timestamp → Option Timestamp

@@ -10,6 +10,7 @@ use crate::checks::{failed_lookup, first_race};
 use order::{Order, Timestamp};
 use std::alloc::{AllocError, Global};
 
+// No `impl Model`, for the same reason as of `History`.
 #[derive(Drop)]
 pub struct Directory {
     // the creation attempts that remain, oldest first

@@ -1,18 +1,19 @@
 // The history of one key.
-ghost use Rattle.std.specs.Prelude.{◌≡◌, ℕ, Bool, true, false, List, is_ok};
+ghost use Rattle.std.specs.Prelude.{◌≡◌, ℕ, Bool, true, List, is_ok, reverse};
 ghost use Rattle.order.specs.Meaning.{Meaning, Lawful};
-ghost use Rattle.histories.specs.Histories.{unused, found, after, finds, enter};
+ghost use Rattle.histories.specs.Histories.{unused, asked, finds, enter};
 ghost use Rattle.histories.specs.Judged.{Entered, Judged};
 ghost use Rattle.histories.specs.Model.{kept, HasRoom};
 ghost use Rattle.histories.specs.declared.accesses.Access.{Access};
 ghost use Rattle.histories.specs.declared.accesses.Kind.{Kind};
 
 use crate::accesses::{Access, Checked, Race};
-use crate::checks::{check_critical, check_last, first_race};
+use crate::checks::{check_each, first_race};
 use crate::rules::ConflictRule;
 use order::{Order, Timestamp};
 use std::alloc::{AllocError, Global};
 
+// No `impl Model`: `enter` asks for room, which is no part of what is kept, so clauses would only say `self.new.kept` for `kept self.new`.
 #[derive(Drop)]
 pub struct History {
     // the last critical access
@@ -43,28 +44,16 @@ impl History {
         self.since.reserve(1)
     }
 
-    // Enters an access that is not critical.
-    fn enter_noncritical<O: Order>(&mut self, order: &O, at: Timestamp) -> Checked
-        requires room { HasRoom self.old }
-        ensures value { result ≡ found (O.machine.means (O.model order.now)).before false (kept self.old) at }
-        ensures after { kept self.new ≡ after (O.machine.means (O.model order.now)).before false (kept self.old) at }
+    // Whom a new access is checked against, oldest first. A critical one: the noncritical ones since the last critical one. If there
+    // are none, and for any other access: that last critical one.
+    fn asked(&self, critical: bool) -> &[Timestamp]
+        ensures { reverse result.now ≡ asked critical (kept self.now) }
     {
-        let found = check_last(order, self.critical, at);
-        self.failed = first_race(self.failed, found.failed, at);
-        self.since.push_reserved(at);
-        found
-    }
-
-    // Enters a critical access.
-    fn enter_critical<O: Order>(&mut self, order: &O, at: Timestamp) -> Checked
-        ensures value { result ≡ found (O.machine.means (O.model order.now)).before true (kept self.old) at }
-        ensures after { kept self.new ≡ after (O.machine.means (O.model order.now)).before true (kept self.old) at }
-    {
-        let found = check_critical(order, self.critical, &self.since, at);
-        self.failed = first_race(self.failed, found.failed, at);
-        self.critical = Some(at);
-        self.since.clear();
-        found
+        if critical && !self.since.is_empty() {
+            &self.since
+        } else {
+            self.critical.as_slice()
+        }
     }
 
     // Enters an access: it is checked against the earlier ones that the rule has it checked against, and kept.
@@ -78,14 +67,20 @@ impl History {
         ensures value { result ≡ finds (R.critical rule.now) (O.machine.means (O.model order.now)).before (kept self.old) access }
         ensures after { kept self.new ≡ enter (R.critical rule.now) (O.machine.means (O.model order.now)).before (kept self.old) access }
     {
-        if rule.is_critical(access.kind) {
-            self.enter_critical(order, access.at)
+        let critical = rule.is_critical(access.kind);
+        let found = check_each(order, self.asked(critical), access.at);
+        self.failed = first_race(self.failed, found.failed, access.at);
+        if critical {
+            self.critical = Some(access.at);
+            self.since.clear();
         } else {
-            self.enter_noncritical(order, access.at)
+            self.since.push_reserved(access.at);
         }
+        found
     }
 
     // The first failing pair, if any.
+    #[tactic(auto, using(crate::proofs::Critical::judged))]
     pub fn race(&self) -> Option<Race>
         ensures value { result ≡ (kept self.now).failed }
         ensures law { (critical : Kind → Bool) (x : Meaning) (accesses : List Access) (n : ℕ) → Lawful x → Entered critical x accesses (kept self.now) n → Judged critical x.before accesses result n }

@@ -1,28 +1,16 @@
 // Keys, and the search for the row of a key.
-ghost use Rattle.std.specs.Prelude.{◌≡◌, Bool, Decides, map};
+ghost use Rattle.std.specs.Prelude.{◌≡◌, Bool, Decides, map, position};
 ghost use Rattle.std.specs.Str.{bytes_eq};
-ghost use Rattle.paths.specs.Bytes.{held_bytes, path_bytes};
-ghost use Rattle.histories.specs.Keys.{Finds, position, same_pair};
-ghost use Rattle.std.specs.Cmp.Rules.{comparing};
-ghost use Rattle.std.proofs.Common.{rules};
+ghost use Rattle.paths.specs.Bytes.{path_bytes};
+ghost use Rattle.histories.specs.Keys.{Finds, same_pair};
 
 use paths::{HeldPath, Path};
 
 // An inode, by its device.
-#[derive(Clone, Copy, Debug)]
+#[derive(Clone, Copy, Debug, PartialEq, Eq)]
 pub struct InodePair {
     pub device: u32,
     pub inode: u64,
-}
-
-impl PartialEq for InodePair {
-    ghost eq = { λ a b. same_pair a b };
-
-    ghost laws = { Prim.search (comparing, rules) };
-
-    fn eq(&self, other: &InodePair) -> bool {
-        self.device == other.device && self.inode == other.inode
-    }
 }
 
 // A row of a table: a key, and what is kept for it.
@@ -51,7 +39,7 @@ impl<K: PartialEq> EqualTo<K> for K {
 
 // A held path equals a borrowed one exactly if their bytes are the same.
 impl<'a> EqualTo<Path<'a>> for HeldPath {
-    ghost equal = { λ h p r. Decides r (held_bytes h ≡ path_bytes p) };
+    ghost equal = { λ h p r. Decides r (h ≡ path_bytes p) };
 
     fn equal_to(&self, other: &Path<'a>) -> bool {
         self.equals(other)
@@ -62,15 +50,10 @@ impl<'a> EqualTo<Path<'a>> for HeldPath {
 pub fn find<K: EqualTo<Q>, Q, V>(rows: &[Row<K, V>], key: &Q) -> Option<usize>
     ensures { Finds (λ row. K.equal row.key key.now) rows.now result }
 {
-    for (i, row) in rows.iter().enumerate() {
-        if row.key.equal_to(key) {
-            return Some(i);
-        }
-    }
-    None
+    rows.iter().position(|row| row.key.equal_to(key))
 }
 
-// The row of an inode pair.
+// The row of an inode pair. This and the next are `find` at one type of key, where the clause says more than its relation.
 pub fn find_pair<V>(rows: &[Row<InodePair, V>], pair: InodePair) -> Option<usize>
     ensures { result ≡ position (λ held. same_pair held pair) (map (λ row. row.key) rows.now) }
 {
@@ -79,7 +62,7 @@ pub fn find_pair<V>(rows: &[Row<InodePair, V>], pair: InodePair) -> Option<usize
 
 // The row of a path.
 pub fn find_path<V>(rows: &[Row<HeldPath, V>], path: Path<'_>) -> Option<usize>
-    ensures { result ≡ position (λ held. bytes_eq held (path_bytes path.entry)) (map (λ row. held_bytes row.key) rows.now) }
+    ensures { result ≡ position (λ held. bytes_eq held (path_bytes path.entry)) (map (λ row. row.key) rows.now) }
 {
     find(rows, &path)
 }

@@ -1,10 +1,6 @@
--- What clauses read of the two types of paths: their bytes.
-use Rattle.std.specs.Prelude.{ℕ, List, vec_items}
+-- What clauses read of a borrowed path: its bytes.
+use Rattle.std.specs.Prelude.{ℕ, List}
 use Rattle.paths.specs.declared.borrowed.Path.{Path}
-use Rattle.paths.specs.declared.held.HeldPath.{HeldPath}
 
 abbrev pub path_bytes : Path → List ℕ
 path_bytes p = p.bytes.now
-
-abbrev pub held_bytes : HeldPath → List ℕ
-held_bytes h = vec_items h.bytes

@@ -36,12 +36,7 @@ fn has_zero(bytes: &[u8]) -> bool
 fn has_double(bytes: &[u8]) -> bool
     ensures { result ≡ doubled bytes.now }
 {
-    for pair in bytes.windows(2) {
-        if pair[0] == SLASH && pair[1] == SLASH {
-            return true;
-        }
-    }
-    false
+    bytes.windows(2).any(|pair| matches!(pair, [SLASH, SLASH]))
 }
 
 // Whether these bytes have the form of a path.

@@ -1,11 +1,20 @@
-ghost use Rattle.std.specs.Prelude.{◌≡◌, true};
-ghost use Rattle.paths.specs.Forms.{wellformed};
-
 mod methods;
 
-// A well-formed path that owns its bytes.
+use std::marker::Model;
+
+// A well-formed path that owns its bytes. Contracts see it as these bytes.
 #[derive(Drop)]
 pub struct HeldPath {
     bytes: Vec<u8>,
-    ghost ok: { wellformed bytes.items ≡ true },
+}
+
+impl Model for HeldPath {
+    ghost use Rattle.std.specs.Prelude.{◌≡◌, true, ℕ, List};
+    ghost use Rattle.paths.specs.Forms.{wellformed};
+
+    ghost Value = { List ℕ };
+
+    ghost view = { λ h. h.bytes.items };
+
+    ghost invariant = { λ h. wellformed h.bytes.items ≡ true };
 }

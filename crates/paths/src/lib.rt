@@ -5,7 +5,7 @@ mod borrowed;
 mod form;
 mod held;
 
-pub use borrowed::Path;
+pub use borrowed::{Malformed, Path};
 pub use form::is_wellformed;
 pub use held::HeldPath;
 

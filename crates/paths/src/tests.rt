@@ -6,10 +6,12 @@ fn forms(rt: HostRuntime) {
     let good: [&[u8]; 4] = [b"/", b"/a", b"/a/b", b"/.a/b c"];
     for path in good {
         assert!(rt; is_wellformed(path));
+        assert!(rt; Path::try_from(path).is_ok());
     }
     let bad: [&[u8]; 8] = [b"", b"//", b"a", b"a/b", b"/a/", b"/a//b", b"/a\0b", b"\0"];
     for path in bad {
         assert!(rt; !is_wellformed(path));
+        assert!(rt; Path::try_from(path).is_err());
     }
 }
 
@@ -22,10 +24,8 @@ fn lengths(rt: HostRuntime) {
 }
 
 fn parent_of(bytes: &[u8]) -> Option<&[u8]> {
-    if !is_wellformed(bytes) {
-        return None;
-    }
-    Path::new(bytes).parent()
+    let up = Path::try_from(bytes).ok()?.parent()?;
+    Some(up.as_bytes())
 }
 
 #[test]

@@ -9,12 +9,9 @@ use std::test::Fail;
 // fails.
 type Entry = (Kind, u32, u32, usize, u32);
 
-// The numbers of a failing pair; 0 and 0 for none.
+// The numbers of a failing pair; 0 and 0 for none, as the rules have the numbers of an entry.
 fn numbers(race: Option<Race>) -> (u32, u32) {
-    match race {
-        Some(race) => (race.earlier.number, race.later.number),
-        None => (0, 0),
-    }
+    race.map_or((0, 0), |race| (race.earlier.number, race.later.number))
 }
 
 // Enters the accesses of a row on a new key, and compares each answer and the failing pair in the end.
@@ -26,20 +23,11 @@ fn enters<R: ConflictRule>(
     pair: (u32, u32),
 ) -> Result<(), Fail> {
     let mut history = History::new(heap);
-    for (kind, number, place, checks, earlier) in row {
+    for &(kind, number, place, checks, earlier) in row {
         history.reserve()?;
-        let found = history.enter(
-            &Frozen,
-            rule,
-            Access {
-                kind: *kind,
-                at: Timestamp {
-                    number: *number,
-                    place: *place,
-                },
-            },
-        );
-        assert_eq!(rt; (found.checks, found.earlier()), (*checks, *earlier));
+        let at = Timestamp { number, place };
+        let found = history.enter(&Frozen, rule, Access { kind, at });
+        assert_eq!(rt; (found.checks, found.earlier()), (checks, earlier));
     }
     assert_eq!(rt; numbers(history.race()), pair);
     Ok(())
@@ -157,7 +145,7 @@ fn paths(rt: HostRuntime) -> Result<(), Fail> {
     Ok(())
 }
 
-// What is done with a directory.
+// What is done with a directory. An enum and no closures: a row of the tables below is read as data, with its numbers.
 #[derive(Clone, Copy)]
 enum Step {
     LookUp,
@@ -170,18 +158,12 @@ type Use = (Step, u32, u32, u32);
 
 fn uses(rt: &impl Abort, heap: Global, row: &[Use], pair: (u32, u32)) -> Result<(), Fail> {
     let mut directory = Directory::new(heap);
-    for (step, number, place, shown) in row {
-        let at = Timestamp {
-            number: *number,
-            place: *place,
-        };
+    for &(step, number, place, shown) in row {
+        let at = Timestamp { number, place };
         match step {
             Step::LookUp => {
-                let failed = match directory.look_up(&Frozen, at) {
-                    Some(attempt) => attempt.number,
-                    None => 0,
-                };
-                assert_eq!(rt; failed, *shown);
+                let failed = directory.look_up(&Frozen, at);
+                assert_eq!(rt; failed.map_or(0, |attempt| attempt.number), shown);
             }
             Step::Attempt => {
                 directory.reserve()?;

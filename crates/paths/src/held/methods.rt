@@ -1,22 +1,15 @@
 ghost use Rattle.std.specs.Prelude.{◌≡◌, true, IfOk, Decides};
-ghost use Rattle.paths.specs.Bytes.{held_bytes, path_bytes};
+ghost use Rattle.paths.specs.Bytes.{path_bytes};
 ghost use Rattle.paths.specs.Forms.{wellformed};
 
 use crate::borrowed::Path;
 use crate::held::HeldPath;
 use std::alloc::{AllocError, Global};
 
-// Whether two slices hold the same bytes.
-fn same_bytes(a: &[u8], b: &[u8]) -> bool
-    ensures { Decides result (a.now ≡ b.now) }
-{
-    a == b
-}
-
 impl HeldPath {
     // A copy of the path, where there is memory for it.
     pub fn hold(heap: Global, path: Path<'_>) -> Result<HeldPath, AllocError>
-        ensures { IfOk result (λ h. held_bytes h ≡ path_bytes path.entry) }
+        ensures { IfOk result (λ h. h ≡ path_bytes path.entry) }
     {
         let bytes = Vec::from_slice(heap, path.as_bytes())?;
         Ok(HeldPath { bytes })
@@ -24,7 +17,7 @@ impl HeldPath {
 
     // The bytes of the path, which have the form.
     pub fn as_bytes(&self) -> &[u8]
-        ensures value { result.now ≡ held_bytes self.now }
+        ensures value { result.now ≡ self.now }
         ensures form { wellformed result.now ≡ true }
     {
         self.bytes.as_slice()
@@ -32,15 +25,16 @@ impl HeldPath {
 
     // The path, borrowed from the held one.
     pub fn as_path(&self) -> Path<'_>
-        ensures { path_bytes result ≡ held_bytes self.now }
+        ensures { path_bytes result ≡ self.now }
     {
         Path::new(self.as_bytes())
     }
 
     // Whether the held path and the borrowed one are the same: exactly if their bytes are.
+    // A method and no `==`, since the library's `PartialEq` compares two values of one type only.
     pub fn equals(&self, other: &Path<'_>) -> bool
-        ensures { Decides result (held_bytes self.now ≡ path_bytes other.now) }
+        ensures { Decides result (self.now ≡ path_bytes other.now) }
     {
-        same_bytes(self.as_bytes(), other.as_bytes())
+        self.as_bytes() == other.as_bytes()
     }
 }

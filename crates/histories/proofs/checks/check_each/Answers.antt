@@ -1,14 +1,19 @@
-use Rattle.std.proofs.Common.{reverse, ◌∙◌, arith}
-use Rattle.histories.proofs.Turns.{on_start, turn, turns_end}
+use Rattle.std.proofs.Common.{◌≡◌, reverse, sym, refl, rules}
+use Rattle.std.proofs.lemmas.Fn.{fold_over}
+use Rattle.std.proofs.lemmas.Iterator.Adapters.{YieldsList-from_rev_slice}
+use Rattle.std.proofs.lemmas.List.{length-reverse}
+use Rattle.std.specs.Iterator.Adapters.{rev_steps}
+use Rattle.std.specs.Slice.Iter.{iter_steps_back}
+use Rattle.histories.specs.Histories.{first_failing}
+use Rattle.histories.proofs.Asked.{one_more}
 use Rattle.histories.proofs.checks.check_each.Goals as goal
 
-pub loop-newest-init : goal.loop-newest-init
-loop-newest-init g c = (on_start _ c.args.new (reverse c.args.earlier.now), omega arith)
-
-pub loop-newest-preserved : goal.loop-newest-preserved
-loop-newest-preserved g c =
-    turn _ c.args.new c.loop-newest.found c.check-found.result _ c.loop-newest.rest.now c.in-Some.older.now c.in-Some.newest.now _
-    c.in-Some.ensures.parts c.check-found.ensures.answer c.loop-newest.invariant
-
 pub returns : goal.returns
-returns g c = record { answer = turns_end _ c.args.new c.loop-newest.found c.loop-newest.rest.now c.in_default.ensures.parts ∙ c.loop-newest.invariant.0 }
+returns g c =
+    let before = (g.O.Order.machine.means (g.O.Order.model c.args.order.now)).before in
+    let earlier = c.args.earlier.now in
+    let failed : c.fold-failed.result ≡ first_failing before (reverse earlier) c.args.new =
+    fold_over (rev_steps iter_steps_back) (λ t. t.now) _ (λ ts f. f ≡ first_failing before ts c.args.new) _ (λ ts f t r f' is k. let more = one_more before c.args.new ts t.now in search rules)
+    c.rev.result _ _ _ (YieldsList-from_rev_slice earlier cc).runs refl c.fold-failed.ensures.ran in
+    let count = length-reverse earlier in
+    record { answer = λ i. record { checks = sym count i; failed = failed i } }

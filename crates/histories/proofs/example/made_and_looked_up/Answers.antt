@@ -2,9 +2,8 @@ use Rattle.std.proofs.Common.{◌≡◌, ℕ, [], ◌∷◌, Ok, ◌∙◌}
 use Rattle.order.specs.declared.Timestamp.{Timestamp}
 use Rattle.order.specs.Machine.{Machine}
 use Rattle.order.specs.Right.{Right}
-use Rattle.histories.specs.Found.{Looked, moved}
+use Rattle.histories.specs.Found.{Looked, none, moved, more}
 use Rattle.histories.specs.Lookups.{KeptAttempts, untried, tried, looked, attempted, looked_up}
-use Rattle.histories.proofs.Steps.{looked_none, looked_more}
 use Rattle.histories.proofs.example.made_and_looked_up.Goals as goal
 
 -- new, a timestamp, the attempt; another timestamp, the lookup
@@ -13,7 +12,7 @@ two_looked : (m : Machine) → Right m → (s t u : m.State) (p q : ℕ) (a b : 
 two_looked m right s t u p q a b v first second k l o new f h =
     let x = right.given s p a t v first in
     let y = right.given t q b u x.valid second in
-    looked_more (moved (looked_more (looked_none (m.means t) k new) (attempted a) x.known l f) y.advanced) (looked_up b) y.known o h
+    rw (h, f, new) (more (moved (more none (attempted a) x.known) y.advanced) (looked_up b) y.known)
 
 pub returns : goal.returns
 returns g c = record {

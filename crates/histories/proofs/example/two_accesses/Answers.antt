@@ -1,4 +1,4 @@
-use Rattle.std.proofs.Common.{◌≡◌, ℕ, ◌+◌, Bool, [], ◌∷◌, Ok, sym, ◌∙◌, subst, arith}
+use Rattle.std.proofs.Common.{◌≡◌, ℕ, ◌+◌, Bool, [], ◌∷◌, Ok, ◌∙◌, zero-add}
 use Rattle.order.specs.Machine.{Machine}
 use Rattle.order.specs.Meaning.{Lawful}
 use Rattle.order.specs.Right.{Right}
@@ -6,9 +6,8 @@ use Rattle.histories.specs.declared.accesses.Access.{Access}
 use Rattle.histories.specs.declared.accesses.Checked.{Checked}
 use Rattle.histories.specs.declared.accesses.Kind.{Kind}
 use Rattle.histories.specs.Histories.{Kept, unused, finds, enter}
-use Rattle.histories.specs.Judged.{Entered, moved}
+use Rattle.histories.specs.Judged.{Entered, none, moved, more}
 use Rattle.histories.specs.Model.{kept}
-use Rattle.histories.proofs.Steps.{entered_none, entered_more}
 use Rattle.histories.proofs.example.two_accesses.Goals as goal
 
 -- new, a timestamp, the first access; another timestamp, the second access
@@ -18,10 +17,7 @@ two_entered : (m : Machine) → Right m → (critical : Kind → Bool) (s t u : 
 two_entered m right critical s t u p q a b v first second k l n o c d new e f same g h =
     let x = right.given s p a.at t v first in
     let y = right.given t q b.at u x.valid second in
-    let one : Entered critical (m.means t) (a ∷ []) n (0 + c.checks) =
-    subst (λ k. Entered critical (m.means t) (a ∷ []) k (0 + c.checks)) (sym same) (entered_more (entered_none critical (m.means t) k new) a x.known l c e f) in
-    let sum : 0 + c.checks + d.checks ≡ c.checks + d.checks = omega arith in
-    (right.lawful u y.valid, subst (Entered critical (m.means u) (a ∷ b ∷ []) o) sum (entered_more (moved one y.advanced) b y.known o d g h))
+    (right.lawful u y.valid, rw (← zero-add c.checks, h, g, same, f, e, new) (more (moved (more none a x.known) y.advanced) b y.known))
 
 pub returns : goal.returns
 returns g c = record {

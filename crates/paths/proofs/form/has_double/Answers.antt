@@ -1,7 +1,9 @@
 use Rattle.std.proofs.Common.{arith}
-use Rattle.std.specs.Slice.Iter.{windows_rest}
-use Rattle.paths.proofs.Decided.{short_single}
+use Rattle.std.proofs.lemmas.Bool.Decides.{same_from_decides}
+use Rattle.std.proofs.lemmas.Grind.{common_steps}
+use Rattle.paths.specs.Forms.{doubled}
+use Rattle.paths.proofs.Decided.{doubled_decides}
 use Rattle.paths.proofs.form.has_double.Goals as goal
 
 pub returns : goal.returns
-returns c = short_single (windows_rest c.loop-pair.pair-iterator) c.args.bytes.now c.loop-pair.invariant.3 (omega (arith, c.in-None.ensures.steps))
+returns c = let bs = c.args.bytes.now in same_from_decides c.any.result (doubled bs) (λ yes. grind (arith, common_steps), λ h. grind (arith, common_steps)) (doubled_decides bs)
