@@ -1,9 +1,11 @@
 // An order: a source of happens-before between timestamps. Several orders stand behind the one trait below.
 #![tactic(auto)]
 
-ghost use Rattle.std.specs.Prelude.{◌≡◌, ℕ, false, List, Decides};
+ghost use Rattle.std.specs.Prelude.{◌≡◌, ℕ, ◌+◌, ◌<◌, ◌≤◌, false, List, MatchResult, Decides};
+ghost use Rattle.faults.specs.declared.OrderFault.TheVariants.{UsedUp};
 ghost use Rattle.order.specs.Events.{told, birth, make, death, post, await};
 ghost use Rattle.order.specs.Machine.{Machine, Tells, Stamps};
+ghost use Rattle.order.specs.Meaning.{last_number};
 ghost use Rattle.order.specs.Right.{Right};
 ghost use Rattle.order.specs.Runs.{Call, Ran, Alive};
 
@@ -11,6 +13,17 @@ use faults::OrderFault;
 
 // The last number that an order gives out.
 pub const LAST_NUMBER: u32 = 1_000_000;
+
+// The number after this one, unless the numbers are used up.
+pub fn next_number(number: u32) -> Result<u32, OrderFault>
+    ensures answer { MatchResult result (λ n. (number < last_number) × (n ≡ number + 1)) (λ f. (last_number ≤ number) × (f ≡ UsedUp)) }
+{
+    if number < LAST_NUMBER {
+        Ok(number + 1)
+    } else {
+        Err(OrderFault::UsedUp)
+    }
+}
 
 // A moment of the session: its number, and the place of the process that it was given to.
 #[derive(Clone, Copy, Debug, PartialEq, Eq)]
