@@ -7,7 +7,6 @@ use Rattle.std.specs.Result.{result_err}
 use Rattle.std.specs.List.{AllByRecursion}
 use Rattle.faults.specs.declared.OrderFault.{OrderFault}
 use Rattle.faults.specs.declared.OrderFault.TheVariants.{BadFlag, AwaitsFull}
-use Rattle.order.proofs.Absent.{none≢some}
 use Rattle.order.proofs.Checks.{passing, refused_after}
 use Rattle.order.proofs.Newest.{newest_push}
 use Rattle.order.proofs.Stamps.{stamp_ended}
@@ -32,7 +31,7 @@ set_cases (x ∷ xs) (suc j) (suc i) v e = ⊎_elim (λ h. inl (ap suc h.0, h.1)
 -- a flag that was posted is a flag
 pub posted : (b : Bool) (o : Option Timestamp) {k : Timestamp} → cond b o None ≡ Some k → (b ≡ true) × (o ≡ Some k)
 posted true o e = (refl, e)
-posted false o e = absurd (none≢some e)
+posted false o e = cc
 
 module _ (m : Machine) (right : Right m) (s : Flagged m.State) (v : Sound m s) where
   -- the order below moved on, and the pairs stayed
@@ -183,8 +182,8 @@ flagged_right m right = record {
 }
 
 pub none_posted : {X : Type 0} (n i : ℕ) {k : X} → slice_index_or (replicate n None) i None ≢ Some k
-none_posted zero i e = none≢some e
-none_posted (suc n) zero e = none≢some e
+none_posted zero i e = cc
+none_posted (suc n) zero e = cc
 none_posted (suc n) (suc i) e = none_posted n i e
 
 -- a new layer over a valid order is valid

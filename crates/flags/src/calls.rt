@@ -1,25 +1,28 @@
 // The calls of the flags layer.
-ghost use Rattle.std.specs.Prelude.{◌≡◌, List, IfOk, Decides, MatchResult};
+ghost use Rattle.std.specs.Prelude.{◌≡◌, ◌-◌, cond, List, IfOk, Some, None, Decides, MatchResult};
 ghost use Rattle.order.specs.Machine.{Tells};
 ghost use Rattle.order.specs.Runs.{Call, Ran};
-ghost use Rattle.flags.specs.Machine.{flagged, new_flags, tell_post, tell_await, post_of, flag_before};
+ghost use Rattle.flags.specs.Machine.{flagged, new_flags, is_flag, tell_post, tell_await, post_of};
 ghost use Rattle.flags.specs.Model.{flag_model};
 ghost use Rattle.flags.specs.Relation.{FlagBefore};
 ghost use Rattle.flags.specs.Runs.{PairsTold};
 ghost use Rattle.flags.specs.Law.{flagged_right};
 
-use crate::chains::{earlier_pairs, leads_through};
 use crate::pair::Pair;
-use crate::state::Flags;
+use crate::state::{FLAGS, Flags};
 use faults::OrderFault;
 use order::{Event, Order, Timestamp};
 use std::alloc::{AllocFailed, Global};
 
-// Flags run from 1 to this.
-const LAST_FLAG: u8 = 32;
-
 // How many awaits there may be.
 const MOST_AWAITS: usize = 32;
+
+// Where the post of a flag is kept, if it is a flag.
+fn slot(flag: u8) -> Option<usize>
+    ensures answer { result ≡ cond (is_flag flag) (Some (flag - 1)) None }
+{
+    usize::from(flag).checked_sub(1).filter(|i| *i < FLAGS)
+}
 
 impl<O: Order> Flags<O> {
     // The layer over an order, with no flag posted. Where there is no memory it hands the order back.
@@ -27,71 +30,52 @@ impl<O: Order> Flags<O> {
         ensures start { MatchResult result (λ s. flag_model O.Order.model s ≡ new_flags (O.Order.model below)) (λ e. e.value ≡ below) }
         ensures valid { O.Order.machine.valid (O.Order.model below) → IfOk result (λ s. (flagged O.Order.machine).valid (flag_model O.Order.model s)) }
     {
-        match Vec::with_capacity(heap, MOST_AWAITS) {
-            Ok(pairs) => Ok(Flags {
-                below,
-                posts: [None; 32],
-                pairs,
-            }),
-            Err(_) => Err(AllocFailed { value: below }),
-        }
+        let Ok(pairs) = Vec::with_capacity(heap, MOST_AWAITS) else {
+            return Err(AllocFailed { value: below });
+        };
+        Ok(Flags {
+            below,
+            posts: [None; FLAGS],
+            pairs,
+        })
     }
 
     // The post of a flag, if it is a flag and was posted.
     fn post_of(&self, flag: u8) -> Option<Timestamp>
         ensures answer { result ≡ post_of (flag_model O.Order.model self.now) flag }
     {
-        if flag == 0 || flag > LAST_FLAG {
-            return None;
-        }
-        self.posts[flag as usize - 1]
+        self.posts[slot(flag)?]
     }
 
     // A process posts a flag.
     fn post(&mut self, process: u32, flag: u8) -> Result<(), OrderFault>
         ensures answer { Tells (tell_post O.Order.machine (flag_model O.Order.model self.old) process flag) result (flag_model O.Order.model self.old) (flag_model O.Order.model self.new) }
     {
-        if flag == 0 || flag > LAST_FLAG || self.post_of(flag).is_some() {
+        let i = slot(flag).ok_or(OrderFault::BadFlag)?;
+        if self.posts[i].is_some() {
             return Err(OrderFault::BadFlag);
         }
-        match self.below.stamp(process) {
-            Ok(stamp) => {
-                self.posts[flag as usize - 1] = Some(stamp);
-                Ok(())
-            }
-            Err(fault) => Err(fault),
-        }
+        let stamp = self.below.stamp(process)?;
+        self.posts[i] = Some(stamp);
+        Ok(())
     }
 
     // A process has waited for a flag.
     fn wait(&mut self, process: u32, flag: u8) -> Result<(), OrderFault>
         ensures answer { Tells (tell_await O.Order.machine (flag_model O.Order.model self.old) process flag) result (flag_model O.Order.model self.old) (flag_model O.Order.model self.new) }
     {
-        let Some(post) = self.post_of(flag) else {
-            return Err(OrderFault::BadFlag);
-        };
+        let post = self.post_of(flag).ok_or(OrderFault::BadFlag)?;
         if self.pairs.len() >= MOST_AWAITS {
             return Err(OrderFault::AwaitsFull);
         }
-        match self.below.stamp(process) {
-            Ok(wait) => {
-                let earlier = earlier_pairs(&self.below, &self.pairs, post);
-                self.pairs.push_reserved(Pair {
-                    post,
-                    wait,
-                    earlier,
-                });
-                Ok(())
-            }
-            Err(fault) => Err(fault),
-        }
-    }
-
-    // Whether a is before b in the order below, or through pairs.
-    fn is_before(&self, a: Timestamp, b: Timestamp) -> bool
-        ensures answer { result ≡ flag_before (O.Order.machine.means (O.Order.model self.now.below)) self.now.pairs.items a b }
-    {
-        self.below.before(a, b) || leads_through(&self.below, &self.pairs, a, b)
+        let wait = self.below.stamp(process)?;
+        let earlier = self.earlier_pairs(post);
+        self.pairs.push_reserved(Pair {
+            post,
+            wait,
+            earlier,
+        });
+        Ok(())
     }
 }
 
@@ -135,6 +119,6 @@ impl<O: Order> Order for Flags<O> {
         ensures chained { (flagged O.Order.machine).valid (flag_model O.Order.model self.now) → Decides result (FlagBefore (O.Order.machine.means (O.Order.model self.now.below)) self.now.pairs.items a b) }
         ensures run { (s : O.Order.machine.State) (calls : List Call) → Ran (flagged O.Order.machine) (new_flags s) calls (flag_model O.Order.model self.now) → PairsTold O.Order.machine s calls self.now.pairs.items }
     {
-        self.is_before(a, b)
+        self.below.before(a, b) || self.leads_through(a, b)
     }
 }

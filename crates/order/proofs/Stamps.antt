@@ -4,15 +4,14 @@ use Rattle.std.proofs.lemmas.Bool.{eq-eqb}
 use Rattle.std.specs.Result.{result_err}
 use Rattle.faults.specs.declared.OrderFault.{OrderFault}
 use Rattle.faults.specs.declared.OrderFault.TheVariants.{NotLive, UsedUp}
-use Rattle.order.proofs.Absent.{none≢some}
 use Rattle.order.specs.Machine.{Machine}
 use Rattle.order.specs.Meaning.{last_number}
 use Rattle.order.specs.Right.{Right}
 
 no_answer : {X : Type 0} (lives : Bool) (r : Result X OrderFault) → result_err r ≡ cond lives (Some UsedUp) (Some NotLive) → is_ok r ≡ false
 no_answer lives (Err f) e = refl
-no_answer true (Ok x) e = absurd (none≢some e)
-no_answer false (Ok x) e = absurd (none≢some e)
+no_answer true (Ok x) e = cc
+no_answer false (Ok x) e = cc
 
 -- none is given any more
 pub stamp_ended : (m : Machine) → Right m → (s : m.State) (p : ℕ) → m.valid s → (m.means s).number ≡ last_number → is_ok (m.stamp s p) ≡ false

@@ -32,8 +32,8 @@ pub struct Timestamp {
     pub place: u32,
 }
 
-// One event of the session, told to any order.
-#[derive(Clone, Copy)]
+// One event of the session, told to any order. Its zeros are those of the log and of the rules, which number a parent and a target so.
+#[derive(Clone, Copy, Debug, PartialEq, Eq)]
 pub enum Event<'a> {
     // A process is born, with a parent (0 for the session itself) and a target (0 for none).
     Birth {
@@ -66,7 +66,7 @@ pub enum Event<'a> {
     },
 }
 
-// Events that refer to nothing, by their values. The lifetime is whichever the caller wants.
+// Events that refer to nothing, by their values: a line each, where a literal takes five. The lifetime is whichever the caller wants.
 impl<'a> Event<'a> {
     pub fn birth(process: u32, parent: u32, target: u16) -> Event<'a>
         ensures value { told result ≡ birth process parent target }
@@ -142,18 +142,11 @@ pub trait Order {
     ghost right: { Right machine };
 }
 
-// Whether a process lives now.
-fn lives_now<O: Order>(order: &O, process: u32) -> bool
-    ensures answer { result ≡ (O.machine.means (O.model order.now)).lives process }
-{
-    order.lives(process)
-}
-
 // Whether a process lives, over a whole run: from a valid state in which nobody lived, exactly the processes live that were born and
 // have not died since.
 pub fn lives_since<O: Order>(order: &O, process: u32) -> bool
     ensures answer { result ≡ (O.machine.means (O.model order.now)).lives process }
     ensures run { (s : O.machine.State) (calls : List Call) → O.machine.valid s → ((p : ℕ) → (O.machine.means s).lives p ≡ false) → Ran O.machine s calls (O.model order.now) → Decides result (Alive process calls) }
 {
-    lives_now(order, process)
+    order.lives(process)
 }

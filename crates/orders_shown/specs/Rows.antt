@@ -14,7 +14,7 @@ pub data Ask : Type 0 where
   known : Timestamp → Ask
   before : Timestamp → Timestamp → Ask
 
--- an event taken in, a timestamp, a refusal by its number, or a yes or no
+-- an event taken in, a timestamp, a refusal by its number in the rules, or a yes or no
 pub data Answer : Type 0 where
   taken : Answer
   stamped : Timestamp → Answer

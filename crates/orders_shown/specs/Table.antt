@@ -118,7 +118,7 @@ room_for_two = record {
 abbrev pub last_birth : Row
 last_birth = record {
   order = stages;
-  state = record { number = 8190; room = (start 5000).room; births = replicate 4095 (record { process = 9; stage = 1; live = false }) };
+  state = record { number = 8190; room = (start 5000).room; births = replicate 4095 (record { process = 9; at = 1; live = false }) };
   calls =
       (tell (birth 9 0 2), taken)
       ∷ (stamp 9, stamped (at 8192 4096))
@@ -130,7 +130,7 @@ last_birth = record {
 abbrev pub last_stamp : Row
 last_stamp = record {
   order = flagged stages;
-  state = new_flags (record { number = 999999; room = 9; births = record { process = 9; stage = 1; live = true } ∷ [] });
+  state = new_flags (record { number = 999999; room = 9; births = record { process = 9; at = 1; live = true } ∷ [] });
   calls =
       (stamp 9, stamped (at 1000000 1))
       ∷ (stamp 9, refused 8)

@@ -4,10 +4,8 @@
 ghost use Rattle.std.specs.Prelude.{◌≡◌, true, length, IfOk};
 ghost use Rattle.order.specs.Runs.{Ran};
 ghost use Rattle.stages.specs.Machine.{stages, start};
-ghost use Rattle.stages.specs.Model.{stage_model};
 ghost use Rattle.flags.specs.Machine.{flagged, new_flags};
-ghost use Rattle.flags.specs.Model.{flag_model};
-ghost use Rattle.orders_shown.specs.Rows.{all_hold};
+ghost use Rattle.orders_shown.specs.Rows.{at, all_hold};
 ghost use Rattle.orders_shown.specs.Session.{session};
 ghost use Rattle.orders_shown.specs.Table.{worked_rows};
 
@@ -16,11 +14,18 @@ use order::{Event, Order, Timestamp};
 use stages::Stages;
 use std::alloc::{AllocError, Global};
 
-// A session of two processes in one stage, the second of which waits for the first. Each event is accepted, and the law's premise is
-// met from the start to the end.
+// A timestamp, by its number and its place.
+pub fn at(number: u32, place: u32) -> Timestamp
+    ensures answer { result ≡ at number place }
+{
+    Timestamp { number, place }
+}
+
+// A session of two processes in one stage, the second of which waits for the first. Each event is accepted, as what unwrap requires
+// says, and the law's premise is met from the start to the end.
 pub fn flag_session(heap: Global) -> Result<Flags<Stages>, AllocError>
-    ensures run { IfOk result (λ s. Ran (flagged stages) (new_flags (start 2)) session (flag_model stage_model s)) }
-    ensures valid { IfOk result (λ s. (flagged stages).valid (flag_model stage_model s)) }
+    ensures run { IfOk result (λ s. Ran (flagged stages) (new_flags (start 2)) session (⟦<Flags<Stages> as Order>⟧.model s)) }
+    ensures valid { IfOk result (λ s. (flagged stages).valid (⟦<Flags<Stages> as Order>⟧.model s)) }
 {
     let stages = Stages::new(heap, 2)?;
     let mut order = Flags::new(heap, stages)?;
@@ -36,19 +41,11 @@ pub fn first_comes_before(heap: Global) -> Result<bool, AllocError>
     ensures answer { IfOk result (λ yes. yes ≡ true) }
 {
     let order = flag_session(heap)?;
-    let birth = Timestamp {
-        number: 1,
-        place: 1,
-    };
-    let wait = Timestamp {
-        number: 4,
-        place: 2,
-    };
-    let yes = order.before(birth, wait);
-    Ok(yes)
+    Ok(order.before(at(1, 1), at(4, 2)))
 }
 
-// How many worked rows there are: each order gives every answer of its row.
+// How many worked rows there are: each order gives every answer of its row. No argument can carry a table of specs/, so each table
+// has a function of its own.
 pub fn worked_rows() -> usize
     ensures count { result ≡ length worked_rows }
     ensures hold { all_hold worked_rows ≡ true }
@@ -58,13 +55,12 @@ pub fn worked_rows() -> usize
 
 // A layer over a layer is an order like any other, and its law's premise is met at the start.
 pub fn two_layers(heap: Global, room: usize) -> Result<Flags<Flags<Stages>>, AllocError>
-    ensures start { IfOk result (λ s. flag_model (flag_model stage_model) s ≡ new_flags (new_flags (start room))) }
-    ensures valid { IfOk result (λ s. (flagged (flagged stages)).valid (flag_model (flag_model stage_model) s)) }
+    ensures start { IfOk result (λ s. ⟦<Flags<Flags<Stages>> as Order>⟧.model s ≡ new_flags (new_flags (start room))) }
+    ensures valid { IfOk result (λ s. (flagged (flagged stages)).valid (⟦<Flags<Flags<Stages>> as Order>⟧.model s)) }
 {
     let stages = Stages::new(heap, room)?;
     let lower = Flags::new(heap, stages)?;
-    let upper = Flags::new(heap, lower)?;
-    Ok(upper)
+    Ok(Flags::new(heap, lower)?)
 }
 
 #[cfg(test)]
@@ -96,9 +92,5 @@ mod tests {
         assert!(rt; !order.before(at(4, 2), at(1, 1)));
         assert!(rt; !order.before(at(1, 1), at(3, 2)));
         Ok(())
-    }
-
-    fn at(number: u32, place: u32) -> Timestamp {
-        Timestamp { number, place }
     }
 }

@@ -1,72 +1,70 @@
 -- The stage order over whole runs: the state tells the accepted calls.
-use Rattle.std.proofs.Common.{◌≡◌, ℕ, suc, ◌+◌, ◌-◌, Bool, true, false, cond, eqb, List, [], ◌∷◌, ◌++◌, map, reverse, length, get_or, IfOk, Some, None, Ok, Err, Decides, Option, Result, sym, refl, ap, ◌∙◌, subst, inl, inr, ⊎_elim, add-one, arith}
+use Rattle.std.proofs.Common.{◌≡◌, ℕ, suc, ◌+◌, ◌-◌, Bool, true, false, cond, eqb, List, [], ◌∷◌, ◌++◌, map, reverse, length, get_or, IfOk, Some, None, Decides, Option, sym, refl, ap, ◌∙◌, subst, inl, inr, ⊎_elim, add-one, arith}
 use Rattle.std.proofs.lemmas.List.{length-map, length_push, length-reverse, map_push, get_or-map}
 use Rattle.std.proofs.lemmas.Result.{IfOk-at_ok}
 use Rattle.std.proofs.lemmas.Bool.{eqb-true, eqb-false}
-use Rattle.faults.specs.declared.OrderFault.{OrderFault}
 use Rattle.faults.specs.declared.OrderFault.TheVariants.{UsedUp}
-use Rattle.order.proofs.Absent.{none≢some}
 use Rattle.order.proofs.Checks.{passing}
 use Rattle.order.proofs.Newest.{newest_push, newest_map}
 use Rattle.order.proofs.Runs.{ran_lives}
 use Rattle.order.specs.declared.Timestamp.{Timestamp}
 use Rattle.order.specs.Events.{Told, birth, make, target, death, post, await}
-use Rattle.order.specs.Machine.{Stamps}
 use Rattle.order.specs.Runs.{Call, tell, stamp, Ran, none, told, given, Alive}
-use Rattle.stages.specs.declared.births.Birth.{Birth}
-use Rattle.stages.specs.Births.{place_of, stage_at, ended}
+use Rattle.births.specs.declared.Birth.{Birth}
+use Rattle.births.specs.Births.{live_birth}
+use Rattle.stages.specs.Births.{stage_at, ended}
 use Rattle.stages.specs.Machine.{Staged, stages, start, next, known_in, before_in, lives_in, birth_checks, death_checks, tell_stage, stamp_at}
 use Rattle.stages.specs.Runs.{SinceStart, births_in, stage_in, Placed, born, still, Known, Before}
 use Rattle.stages.specs.Law.{known_parts, known_from, before_parts, before_from, stages_right}
-use Rattle.stages.specs.Places.{place_ended}
+use Rattle.stages.specs.Places.{birth_ended}
 
 -- what a birth shows of itself for good
-seen : Birth → ℕ × ℕ
-seen x = (x.process, x.stage)
+seen : Birth ℕ → ℕ × ℕ
+seen x = (x.process, x.at)
 
 -- The state tells the calls: how many they were, the births among them, and the latest birth of each live process.
 record TellsCalls (calls : List Call) (s : Staged) : Type 0 where
   counted : s.number ≡ length calls
   births : map seen s.births ≡ births_in calls
-  placed : (p k : ℕ) → place_of (reverse s.births) p ≡ Some k → Placed p calls k
+  placed : (p i : ℕ) → live_birth (reverse s.births) p ≡ Some i → Placed p calls (i + 1)
 
-seen_ended : (p : ℕ) (xs : List Birth) → map seen (map (ended p) xs) ≡ map seen xs
+seen_ended : (p : ℕ) (xs : List (Birth ℕ)) → map seen (map (ended p) xs) ≡ map seen xs
 unfolding seen
 seen_ended p [] = refl
-seen_ended p (x ∷ xs) = ap (λ ys. (x.process, x.stage) ∷ ys) (seen_ended p xs)
+seen_ended p (x ∷ xs) = ap (λ ys. (x.process, x.at) ∷ ys) (seen_ended p xs)
 
 count_is : {calls : List Call} {s : Staged} → TellsCalls calls s → length s.births ≡ length (births_in calls)
 count_is {calls} {s} h = sym (length-map s.births seen) ∙ ap length h.births
 
 -- the newest birth gives its process the newest place, and leaves the others where they were
-module _ {calls : List Call} (s : Staged) (h : TellsCalls calls s) (p parent stage q k : ℕ) where
-  place_born : (b : Bool) → eqb p q ≡ b → cond b (Some (suc (length (reverse s.births)))) (place_of (reverse s.births) q) ≡ Some k → Placed q (tell (birth p parent stage) ∷ calls) k
+module _ {calls : List Call} (s : Staged) (h : TellsCalls calls s) (p parent stage q i : ℕ) where
+  place_born : (b : Bool) → eqb p q ≡ b → cond b (Some (length (reverse s.births))) (live_birth (reverse s.births) q) ≡ Some i → Placed q (tell (birth p parent stage) ∷ calls) (i + 1)
   place_born true is e =
-      let new : suc (length (reverse s.births)) ≡ k = cc in
-      let size : length (births_in calls ++ (p, stage) ∷ []) ≡ k = omega (arith, length_push (births_in calls) (p, stage), length-reverse s.births, count_is h) in
+      let new : length (reverse s.births) ≡ i = cc in
+      let size : length (births_in calls ++ (p, stage) ∷ []) ≡ i + 1 = omega (arith, length_push (births_in calls) (p, stage), length-reverse s.births, count_is h) in
       subst (Placed q (tell (birth p parent stage) ∷ calls)) size (born (eqb-true p q is))
-  place_born false is e = still (eqb-false p q is) (h.placed q k e)
+  place_born false is e = still (eqb-false p q is) (h.placed q i e)
 
-  place_dead : (b : Bool) → cond b None (place_of (reverse s.births) q) ≡ Some k → Placed q (tell (death p) ∷ calls) k
-  place_dead true e = absurd (none≢some e)
-  place_dead false e = still (λ x. x) (h.placed q k e)
+  place_dead : (b : Bool) → cond b None (live_birth (reverse s.births) q) ≡ Some i → Placed q (tell (death p) ∷ calls) (i + 1)
+  place_dead true e = cc
+  place_dead false e = still (λ x. x) (h.placed q i e)
 
-after_birth : {calls : List Call} (s : Staged) (p parent stage : ℕ) → TellsCalls calls s → TellsCalls (tell (birth p parent stage) ∷ calls) (next s (s.births ++ record { process = p; stage = stage; live = true } ∷ []))
+after_birth : {calls : List Call} (s : Staged) (p parent stage : ℕ) → TellsCalls calls s → TellsCalls (tell (birth p parent stage) ∷ calls) (next s (s.births ++ record { process = p; at = stage; live = true } ∷ []))
 unfolding seen
 after_birth s p parent stage h =
-    let x : Birth = record { process = p; stage = stage; live = true } in
+    let x : Birth ℕ = record { process = p; at = stage; live = true } in
     record {
       counted = add-one s.number ∙ ap suc h.counted;
       births = map_push seen s.births x ∙ ap (λ ys. ys ++ (p, stage) ∷ []) h.births;
-      placed = λ q k e. place_born s h p parent stage q k (eqb p q) refl (sym (ap (λ ys. place_of ys q) (newest_push s.births x)) ∙ e);
+      placed = λ q i e. place_born s h p parent stage q i (eqb p q) refl (sym (ap (λ ys. live_birth ys q) (newest_push s.births x)) ∙ e);
     }
 
 after_death : {calls : List Call} (s : Staged) (p : ℕ) → TellsCalls calls s → TellsCalls (tell (death p) ∷ calls) (next s (map (ended p) s.births))
 after_death s p h = record {
   counted = add-one s.number ∙ ap suc h.counted;
   births = seen_ended p s.births ∙ h.births;
-  placed = λ q k e.
-      place_dead s h p 0 0 q k (eqb p q) (sym (ap (λ ys. place_of ys q) (newest_map (ended p) s.births) ∙ place_ended (reverse s.births) p q) ∙ e);
+  placed = λ q i e.
+      place_dead s h p 0 0 q i (eqb p q) (sym (ap (λ ys. live_birth ys q) (newest_map (ended p) s.births) ∙ birth_ended (reverse s.births) p q) ∙ e);
 }
 
 after_event : {calls : List Call} (s : Staged) (e : Told) → TellsCalls calls s → IfOk (tell_stage s e) (TellsCalls (tell e ∷ calls))
@@ -77,29 +75,29 @@ after_event s (target p ts) h = tt
 after_event s (post p f) h = tt
 after_event s (await p f) h = tt
 
--- what a timestamp says, and what it leaves
-Stamped : Staged → Option ℕ → Timestamp × Staged → Type 0
-Stamped s o r = (r.0.number ≡ s.number + 1) × (o ≡ Some r.0.place) × (r.1 ≡ next s s.births)
+-- what a timestamp leaves
+Left : Staged → Timestamp × Staged → Type 0
+Left s r = r.1 ≡ next s s.births
 
-stamped : (s : Staged) (o : Option ℕ) → IfOk (stamp_at s o) (Stamped s o)
-unfolding Stamped
-stamped s None = tt
-stamped s (Some place) = passing (λ (r : Timestamp × Staged). Stamped s (Some place) r) ((eqb s.number 1000000, UsedUp) ∷ []) _ (λ _. (refl, refl, refl))
+left : (s : Staged) (o : Option ℕ) → IfOk (stamp_at s o) (Left s)
+unfolding Left
+left s None = tt
+left s (Some i) = passing (Left s) ((eqb s.number 1000000, UsedUp) ∷ []) _ (λ _. refl)
 
 after_stamp : {calls : List Call} (s : Staged) (p : ℕ) → TellsCalls calls s → TellsCalls (stamp p ∷ calls) (next s s.births)
 after_stamp s p h = record {
   counted = add-one s.number ∙ ap suc h.counted;
   births = h.births;
-  placed = λ q k e. still (λ x. x) (h.placed q k e);
+  placed = λ q i e. still (λ x. x) (h.placed q i e);
 }
 
 tells_calls : (room : ℕ) {calls : List Call} {s : Staged} → Ran stages (start room) calls s → TellsCalls calls s
-unfolding Stamped
-tells_calls room none = record { counted = refl; births = refl; placed = λ p k e. absurd (none≢some e) }
+unfolding Left
+tells_calls room none = record { counted = refl; births = refl; placed = λ p i e. cc }
 tells_calls room (told {calls = cs} {t = t} {e = e} r ok) = IfOk-at_ok (TellsCalls (tell e ∷ cs)) ok (after_event t e (tells_calls room r))
 tells_calls room (given {calls = cs} {t = t} {p = p} r ok) =
-    let left = (IfOk-at_ok (Stamped t (place_of (reverse t.births) p)) ok (stamped t (place_of (reverse t.births) p))).2 in
-    subst (TellsCalls (stamp p ∷ cs)) (sym left) (after_stamp t p (tells_calls room r))
+    let state = IfOk-at_ok (Left t) ok (left t (live_birth (reverse t.births) p)) in
+    subst (TellsCalls (stamp p ∷ cs)) (sym state) (after_stamp t p (tells_calls room r))
 
 module _ (calls : List Call) (s : Staged) (since : SinceStart calls s) where
   tells : TellsCalls calls s
@@ -141,10 +139,5 @@ module _ (calls : List Call) (s : Staged) (since : SinceStart calls s) where
         before_from s a b (ka, kb, h.lower, ⊎_elim inl (λ l. inr (omega arith)) h.staged),
   )
 
-  pub stamp_run : (p : ℕ) (r : Result Timestamp OrderFault) (t : Staged) → Stamps (stages.stamp s p) r s t → IfOk r (λ k. (k.number ≡ length calls + 1) × Placed p calls k.place)
-  unfolding Stamped
-  stamp_run p (Err f) t h = tt
-  stamp_run p (Ok k) t h =
-      let o = place_of (reverse s.births) p in
-      let said = IfOk-at_ok (Stamped s o) h (stamped s o) in
-      (said.0 ∙ ap (λ n. n + 1) number_run, tells.placed p k.place said.1)
+  pub stamp_run : (p i : ℕ) → Some i ≡ live_birth (reverse s.births) p → (s.number + 1 ≡ length calls + 1) × Placed p calls (i + 1)
+  stamp_run p i here = (ap (λ n. n + 1) number_run, tells.placed p i (sym here))

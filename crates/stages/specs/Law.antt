@@ -13,10 +13,11 @@ use Rattle.order.specs.Events.{Told, birth, make, target, death, post, await}
 use Rattle.order.specs.Machine.{refused_if}
 use Rattle.order.specs.Meaning.{Lawful, Advanced, last_number}
 use Rattle.order.specs.Right.{Right, EventTaken, StampGiven}
-use Rattle.stages.specs.declared.births.Birth.{Birth}
-use Rattle.stages.specs.Births.{place_of, stage_at, ended}
+use Rattle.births.specs.declared.Birth.{Birth}
+use Rattle.births.specs.Births.{live_birth}
+use Rattle.stages.specs.Births.{stage_at, ended}
 use Rattle.stages.specs.Machine.{Staged, stages, next, known_in, before_in, birth_checks, death_checks, tell_stage, stamp_at}
-use Rattle.stages.specs.Places.{some_cond, none_cond, place_within, place_ended, any_decides}
+use Rattle.stages.specs.Places.{some_cond, none_cond, live_within, birth_ended, any_decides}
 
 -- what a known timestamp tells
 pub known_parts : (s : Staged) (a : Timestamp) → known_in s a ≡ true → (1 ≤ a.number) × (a.number ≤ s.number) × (1 ≤ a.place) × (a.place ≤ length s.births)
@@ -64,7 +65,7 @@ stages_lawful s v = record {
 }
 
 -- A later state: one number more, and each place that there was with the stage that it had.
-module _ (s : Staged) (births : List Birth) (more : length s.births ≤ length births)
+module _ (s : Staged) (births : List (Birth ℕ)) (more : length s.births ≤ length births)
     (same : (k : ℕ) → 1 ≤ k → k ≤ length s.births → stage_at births k ≡ stage_at s.births k) where
   known_later : (a : Timestamp) → known_in s a ≡ true → known_in (next s births) a ≡ true
   known_later a e = let p = known_parts s a e in known_from (next s births) a p.0 (omega arith) p.2 (omega arith)
@@ -89,19 +90,19 @@ still_counted n v e = let ne = eqb-false n last_number e in omega arith
 -- each accepted event, by what its checks tell
 event_taken : (s : Staged) (e : Told) → s.number ≤ last_number → IfOk (tell_stage s e) (EventTaken stages s e)
 event_taken s (birth p parent stage) v =
-    let x : Birth = record { process = p; stage = stage; live = true } in
+    let x : Birth ℕ = record { process = p; at = stage; live = true } in
     passing (EventTaken stages s (birth p parent stage)) (birth_checks s p parent stage) (Ok (next s (s.births ++ x ∷ []))) (λ passed. record {
       advanced = advanced s (s.births ++ x ∷ []) (omega (arith, length_push s.births x))
-          (λ k low high. ap (λ y. y.stage) (get_or_append_left s.births (x ∷ []) _ (k - 1) (omega arith)));
-      lives = λ q. ap (λ ys. is_some (place_of ys q)) (newest_push s.births x) ∙ some_cond (p == q) _ (place_of (reverse s.births) q);
+          (λ k low high. ap (λ y. y.at) (get_or_append_left s.births (x ∷ []) _ (k - 1) (omega arith)));
+      lives = λ q. ap (λ ys. is_some (live_birth ys q)) (newest_push s.births x) ∙ some_cond (p == q) _ (live_birth (reverse s.births) q);
       valid = still_counted s.number v passed.1.1.0;
     })
 event_taken s (death p) v =
     passing (EventTaken stages s (death p)) (death_checks s p) (Ok (next s (map (ended p) s.births))) (λ passed. record {
       advanced = advanced s (map (ended p) s.births) (omega (arith, length-map s.births (ended p)))
-          (λ k low high. ap (λ y. y.stage) (get_or-map (ended p) s.births (k - 1) _ _ (omega arith)));
-      lives = λ q. ap (λ ys. is_some (place_of ys q)) (newest_map (ended p) s.births)
-          ∙ ap is_some (place_ended (reverse s.births) p q) ∙ none_cond (p == q) (place_of (reverse s.births) q);
+          (λ k low high. ap (λ y. y.at) (get_or-map (ended p) s.births (k - 1) _ _ (omega arith)));
+      lives = λ q. ap (λ ys. is_some (live_birth ys q)) (newest_map (ended p) s.births)
+          ∙ ap is_some (birth_ended (reverse s.births) p q) ∙ none_cond (p == q) (live_birth (reverse s.births) q);
       valid = still_counted s.number v passed.1.0;
     })
 event_taken s (make p) v = tt
@@ -119,22 +120,22 @@ event_ended s (post p f) e = refl
 event_ended s (await p f) e = refl
 
 -- a timestamp, by where its process lives
-stamp_given : (s : Staged) (o : Option ℕ) → s.number ≤ last_number → IfSome o (λ k. (1 ≤ k) × (k ≤ length (reverse s.births))) → IfOk (stamp_at s o) (λ r. StampGiven stages s r.0 r.1)
+stamp_given : (s : Staged) (o : Option ℕ) → s.number ≤ last_number → IfSome o (λ i. i < length (reverse s.births)) → IfOk (stamp_at s o) (λ r. StampGiven stages s r.0 r.1)
 stamp_given s None v h = tt
-stamp_given s (Some place) v h =
+stamp_given s (Some i) v h =
     passing (λ (r : Timestamp × Staged). StampGiven stages s r.0 r.1) ((s.number == last_number, UsedUp) ∷ []) _ (λ passed. record {
       advanced = advanced s s.births (omega arith) (λ _ _ _. refl);
       lives = λ _. refl;
       valid = still_counted s.number v passed.0;
       newest = refl;
-      known = known_from (next s s.births) (record { number = s.number + 1; place = place }) (omega arith) (omega arith) h.0 (omega (arith, length-reverse s.births));
+      known = known_from (next s s.births) (record { number = s.number + 1; place = i + 1 }) (omega arith) (omega arith) (omega arith) (omega (arith, length-reverse s.births));
     })
 
 stamp_refused : (s : Staged) (o : Option ℕ) → result_err (stamp_at s o) ≡ cond (is_some o) (cond (s.number == last_number) (Some UsedUp) None) (Some NotLive)
 stamp_refused s None = refl
-stamp_refused s (Some place) = go (s.number == last_number)
+stamp_refused s (Some i) = go (s.number == last_number)
   where
-    go : (b : Bool) → result_err {T = Timestamp × Staged} (refused_if b UsedUp (Ok (record { number = s.number + 1; place = place }, next s s.births))) ≡ cond b (Some UsedUp) None
+    go : (b : Bool) → result_err {T = Timestamp × Staged} (refused_if b UsedUp (Ok (record { number = s.number + 1; place = i + 1 }, next s s.births))) ≡ cond b (Some UsedUp) None
     go true = refl
     go false = refl
 
@@ -143,7 +144,7 @@ stages_right = record {
   lawful = stages_lawful;
   taken = λ s e t v ok. IfOk-at_ok (EventTaken stages s e) ok (event_taken s e v);
   ended = λ s e v last. event_ended s e last;
-  given = λ s p k t v ok. IfOk-at_ok (λ r. StampGiven stages s r.0 r.1) ok (stamp_given s (place_of (reverse s.births) p) v (place_within (reverse s.births) p));
-  refused = λ s p v. stamp_refused s (place_of (reverse s.births) p);
+  given = λ s p k t v ok. IfOk-at_ok (λ r. StampGiven stages s r.0 r.1) ok (stamp_given s (live_birth (reverse s.births) p) v (live_within (reverse s.births) p));
+  refused = λ s p v. stamp_refused s (live_birth (reverse s.births) p);
   somebody = λ s v. any_decides (reverse s.births);
 }

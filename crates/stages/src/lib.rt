@@ -1,7 +1,6 @@
 // The stage order: each process is born into a stage, and what a lower stage does comes before what a higher one does.
 #![tactic(auto)]
 
-mod births;
 mod calls;
 mod state;
 

@@ -1,18 +1,24 @@
 // The state of the stage order.
-ghost use Rattle.std.specs.Prelude.{◌≤◌, vec_len, vec_capacity};
+use births::Birth;
+use std::marker::Model;
 
-use crate::births::Birth;
-
+// The count of the events and timestamps that there were, the room for births, and the births so far, oldest first.
 #[derive(Drop)]
 pub struct Stages {
-    // how many events and timestamps there were
     pub(crate) number: u32,
-    // how many births there may be
     pub(crate) room: usize,
-    // the births so far
-    pub(crate) births: Vec<Birth>,
-    ghost counted: { number ≤ 1000000 },
-    ghost limited: { room ≤ 4096 },
-    ghost within: { vec_len births ≤ room },
-    ghost reserved: { room ≤ vec_capacity births },
+    pub(crate) births: Vec<Birth<u8>>,
+}
+
+// Contracts see a state of the machine.
+impl Model for Stages {
+    ghost use Rattle.stages.specs.Machine.{Staged};
+
+    ghost Value = { Staged };
+
+    ghost use Rattle.stages.specs.Model.{staged, Sound};
+
+    ghost view = { staged };
+
+    ghost invariant = { Sound };
 }
