@@ -1,25 +1,24 @@
 -- What the calls of the make order ask, from what a state keeps: places within the tables, and room.
-use Rattle.std.proofs.Common.{◌≡◌, ℕ, zero, suc, ◌+◌, ◌-◌, ◌*◌, ◌^◌, ◌<◌, ◌≤◌, Bool, true, false, cond, ◌&&◌, leb, ◌⊎◌, List, [], ◌∷◌, ◌++◌, map, length, get_or, set, Some, Vec, sym, refl, ap, ◌∙◌, subst, inl, inr, ⊎_elim, arith, MatchOption}
+use Rattle.std.proofs.Common.{◌≡◌, ℕ, zero, suc, ◌+◌, ◌-◌, ◌*◌, ◌^◌, ◌<◌, ◌≤◌, Bool, true, false, cond, ◌&&◌, leb, List, [], ◌∷◌, length, get_or, set, Some, Vec, sym, refl, ap, ◌∙◌, subst, inl, inr, ⊎_elim, arith, MatchOption}
 use Rattle.std.proofs.lemmas.Nat.{mul-add-lt, mul-le}
 use Rattle.std.proofs.lemmas.List.{length-map, length_push, get_or_past, get_or_read, with_items_is}
 use Rattle.std.proofs.lemmas.List.Sums.{count_by-le-length}
-use Rattle.std.proofs.lemmas.Bool.{cases_Bool, cases_order, false≢true, and_parts, leb-true}
+use Rattle.std.proofs.lemmas.Bool.{cases_order, false≢true, and_parts, leb-true}
 use Rattle.std.specs.Vec.{with_items}
 use Rattle.order.specs.declared.Timestamp.{Timestamp}
-use Rattle.makes.specs.declared.births.Birth.{Birth}
+use Rattle.births.specs.declared.Birth.{Birth}
 use Rattle.makes.specs.declared.climb.Meeting.{Meeting}
 use Rattle.makes.specs.declared.places.Kind.{Kind}
 use Rattle.makes.specs.declared.places.Kind.TheVariants.{Session, Make, Target, Step}
 use Rattle.makes.specs.declared.places.Place.{Place}
-use Rattle.makes.specs.declared.places.Status.TheVariants.{Unstarted}
-use Rattle.makes.specs.Machine.{Build, found, known_in, target_at, born_at, with_step, slots_from, turned_make, declared, died}
-use Rattle.makes.specs.Places.{make_sort, is_make, ordinal_of, targets_of, row_of, one_more, one_less, no_place, place_at, kind_at, Shape, shape, shapes, shape_at, parents_of, parents, stand, changed, step_added, target_added, no_birth, birth_at, all_declared, row_in}
+use Rattle.makes.specs.Machine.{Build, found, known_in, target_at, settled, slots_from, turned, ended, listed, rows_of, HasTarget}
+use Rattle.makes.specs.Places.{make, make_sort, target_sort, is_make, is_target, ordinal_of, targets_of, row_of, one_more, one_less, no_place, place_at, kind_at, Shape, shape, shapes, shape_at, parents_of, parents, stand, changed, make_added, no_birth, birth_at, all_declared}
 use Rattle.makes.specs.Rows.{joined_row}
-use Rattle.makes.specs.Sound.{Sound, TargetOf, Ready, counts_at, makes_above}
+use Rattle.makes.specs.Sound.{Sound, SoundTree, TargetOf, counts_at, makes_above}
 use Rattle.makes.specs.Tree.{Earlier, Holds, Side, Meets, line, levels, holds}
 use Rattle.makes.specs.Entries.{live_more, more_shapes}
 use Rattle.makes.specs.Found.{Found, Nobody, found_tells}
-use Rattle.makes.specs.Judging.{sort_is, row_is, side_row}
+use Rattle.makes.specs.Judging.{sort_is, row_is, Judgeable, side_row, side_kind}
 use Rattle.makes.specs.Lawful.{known_parts}
 use Rattle.makes.specs.Lodgers.{birth_new, lodger_counts}
 use Rattle.makes.specs.Shapes.{shape_is, count_is, length_changed, is_make_sort, above_make, levels_few}
@@ -47,26 +46,24 @@ live_few s sound x =
 
 -- What a birth at x asks, from what is kept after it.
 pub record Enterable (ps : List Place) (x : ℕ) : Type 0 where
-  pub rooted : Earlier (parents ps)
   pub within : x < length ps
   pub few : (y : ℕ) → (place_at ps y).live ≤ 4096
 
-pub enterable : (s : Build) (p x : ℕ) (ps : List Place) → Sound (born_at s p ps x) → Enterable ps x
-enterable s p x ps sound =
-    let b : Birth = record { process = p; home = x; live = true } in
+pub enterable : (n : ℕ) (s : Build) (p x : ℕ) (ps : List Place) → Sound (settled n s p ps x) → Enterable ps x
+enterable n s p x ps sound =
+    let b : Birth ℕ = record { process = p; at = x; live = true } in
     let same = more_shapes ps x in
     let earlier : Earlier (parents ps) = subst (λ (ts : List Shape). Earlier (parents_of ts)) same sound.tree.earlier in
     let long = length_push s.births b in
     let size = length-map (changed one_more ps (line (parents ps) x)) shape in
     let kept = length_changed one_more ps (line (parents ps) x) in
-    let home = ap (λ (y : Birth). y.home) (birth_new s.births b) in
+    let home = ap (λ (y : Birth ℕ). y.at) (birth_new s.births b) in
     let housed = sound.births.housed (length s.births) (omega arith) in
     let inside : x < length ps = omega arith in
     record {
-      rooted = earlier;
       within = inside;
       few = λ y.
-          let after = live_few (born_at s p ps x) sound y in
+          let after = live_few (settled n s p ps x) sound y in
           let at = ap (λ (z : Place). z.live) (walked_at (parents ps) earlier one_more y x ps inside) ∙ live_more (holds (parents ps) y x) (place_at ps y) in
           less (holds (parents ps) y x) (place_at ps y).live (subst (λ n. n ≤ 4096) at after);
     }
@@ -77,111 +74,104 @@ enterable s p x ps sound =
 
 -- What a death asks.
 pub record Leavable (ps : List Place) (home : ℕ) : Type 0 where
-  pub rooted : Earlier (parents ps)
   pub within : home < length ps
   pub some : (x : ℕ) → Holds (parents ps) x home → 0 < (place_at ps x).live
 
-pub leavable : (s : Build) → Sound s → (i : ℕ) → i < length s.births → (birth_at s.births i).live ≡ true → Leavable s.places (birth_at s.births i).home
+pub leavable : (s : Build) → Sound s → (i : ℕ) → i < length s.births → (birth_at s.births i).live ≡ true → Leavable s.places (birth_at s.births i).at
 leavable s sound i h alive =
-    let w : (birth_at s.births i).home < length s.places = let a = sound.births.housed i h in let b = length-map s.places shape in omega arith in
+    let w : (birth_at s.births i).at < length s.places = let a = sound.births.housed i h in let b = length-map s.places shape in omega arith in
     record {
-      rooted = sound.tree.earlier;
       within = w;
       some = λ x held.
           let le = holds_le (parents s.places) sound.tree.earlier held in
           let size = length-map s.places shape in
-          there x (omega arith) ((holds_decides (parents s.places) sound.tree.earlier x (birth_at s.births i).home).1 held);
+          there x (omega arith) ((holds_decides (parents s.places) sound.tree.earlier x (birth_at s.births i).at).1 held);
     }
   where
-    there : (x : ℕ) → x < length (shapes s.places) → holds (parents s.places) x (birth_at s.births i).home ≡ true → 0 < (place_at s.places x).live
+    there : (x : ℕ) → x < length (shapes s.places) → holds (parents s.places) x (birth_at s.births i).at ≡ true → 0 < (place_at s.places x).live
     there x w held =
         let c = lodger_counts (parents s.places) s.births x i h alive held in
         let l = sound.births.live x w in
         let e = live_is s.places x in
         omega arith
 
+-- A make stands within the table, and only a make has targets.
+pub make_within : (ps : List Place) (x : ℕ) → is_make (kind_at ps x) ≡ true → x < length ps
+make_within ps x made = ⊎_elim (λ is. past (omega arith)) (⊎_elim (λ lt. lt) (λ gt. past (omega arith))) (cases_order x (length ps))
+  where
+    past : length ps ≤ x → x < length ps
+    past h = absurd (false≢true (ap (λ (p : Place). is_make p.kind) (sym (get_or_past ps x no_place h)) ∙ made))
+
+pub targets_make : (k : Kind) → 0 < targets_of k → is_make k ≡ true
+targets_make Session h = absurd (omega arith)
+targets_make (Make m) h = refl
+targets_make (Target row) h = absurd (omega arith)
+targets_make (Step start end) h = absurd (omega arith)
+
+pub declared_at : (n : ℕ) (ks : List ℕ) → all_declared n ks ≡ true → (j : ℕ) → j < length ks → (1 ≤ get_or ks j 0) × (get_or ks j 0 ≤ n)
+declared_at n [] e j low = absurd (omega arith)
+declared_at n (k ∷ ks) e zero low =
+    let p = and_parts (leb 1 k && leb k n) _ e in
+    let q = and_parts (leb 1 k) _ p.0 in
+    (leb-true _ _ q.0, leb-true _ _ q.1)
+declared_at n (k ∷ ks) e (suc j) low = declared_at n ks (and_parts (leb 1 k && leb k n) _ e).1 j (omega arith)
+
 -- The slots of a make's targets.
-module _ (s : Build) (sound : Sound s) (m : ℕ) (within : m < length s.places) where
+module _ (s : Build) (sound : Sound s) (m : ℕ) (made : is_make (kind_at s.places m) ≡ true) where
   ordinal_is : (shape_at (shapes s.places) m).ordinal ≡ ordinal_of (kind_at s.places m)
   ordinal_is = ap (λ (y : Shape). y.ordinal) (shape_is s.places m)
 
   in_tree : m < length (shapes s.places)
-  in_tree = let n = length-map s.places shape in omega arith
+  in_tree = let n = length-map s.places shape in let w = make_within s.places m made in omega arith
 
-  ordinal_low : is_make (kind_at s.places m) ≡ true → ordinal_of (kind_at s.places m) < s.makes
-  ordinal_low e =
-      let o = sound.slots.ordinal m in_tree (is_make_sort _ (ap make_sort (sort_is s sound m) ∙ e)) in
-      let i = ordinal_is in
-      omega arith
+  make_is : (shape_at (shapes s.places) m).sort ≡ make
+  make_is = is_make_sort _ (ap make_sort (sort_is s sound m) ∙ made)
 
-  pub ordinal_few : ordinal_of (kind_at s.places m) ≤ 64
-  ordinal_few =
-      ⊎_elim
-      (λ e. let o = ordinal_low e in let a = sound.room.makes in let b = sound.room.most_makes in omega arith)
-      (λ e. let z = none (kind_at s.places m) e in omega arith)
-      (cases_Bool (is_make (kind_at s.places m)))
-    where
-      none : (k : Kind) → is_make k ≡ false → ordinal_of k ≡ 0
-      none Session e = refl
-      none (Make status ordinal targets) e = absurd (false≢true (sym e))
-      none (Target row) e = refl
-      none (Step start end) e = refl
+  ordinal_low : ordinal_of (kind_at s.places m) < s.makes
+  ordinal_low = let o = sound.slots.ordinal m in_tree make_is in let i = ordinal_is in omega arith
 
   pub first_few : slots_from s m ≤ 32768
   first_few =
-      let o = ordinal_few in
+      let o = ordinal_low in
+      let a = sound.room.makes in
+      let b = sound.room.most_makes in
       let t = sound.room.most_targets in
-      mul-le (ordinal_of (kind_at s.places m)) s.room.targets 64 512 o t
+      mul-le (ordinal_of (kind_at s.places m)) s.room.targets 64 512 (omega arith) t
 
-  pub targets_few : targets_of (kind_at s.places m) ≤ s.targets
+  pub targets_few : targets_of (kind_at s.places m) ≤ length s.rows
   targets_few = let f = sound.slots.few m in let e = count_is s.places m in omega arith
 
   -- each target of the make has a slot, and so has the next one while there is room
-  pub slot_within : is_make (kind_at s.places m) ≡ true → (k : ℕ) → k < s.room.targets → slots_from s m + k < length s.slots
-  slot_within e k h =
-      let o = ordinal_low e in
+  pub slot_within : (k : ℕ) → k < s.room.targets → slots_from s m + k < length s.slots
+  slot_within k h =
+      let o = ordinal_low in
       let a = sound.room.makes in
       let l = sound.room.slots in
       let at = mul-add-lt (ordinal_of (kind_at s.places m)) s.room.targets k s.room.makes (omega arith) h in
       omega arith
 
-  -- the slot of a declared target, and what is needed to join its row
-  pub declared_slot : is_make (kind_at s.places m) ≡ true → (k : ℕ) → 1 ≤ k → k ≤ targets_of (kind_at s.places m) → slots_from s m + (k - 1) < length s.slots
-  declared_slot e k low high = let f = targets_few in let r = sound.room.targets in slot_within e (k - 1) (omega arith)
+-- What is known of a declared target: its slot, its place, and its row.
+pub record Ready (s : Build) (m k : ℕ) : Type 0 where
+  pub made : is_make (kind_at s.places m) ≡ true
+  pub slot : slots_from s m + (k - 1) < length s.slots
+  pub sort : is_target (kind_at s.places (target_at s m k)) ≡ true
+  pub row : row_of (kind_at s.places (target_at s m k)) < length s.rows
+  pub few : length s.rows ≤ 512
 
-  pub ready_at : is_make (kind_at s.places m) ≡ true → (k : ℕ) → 1 ≤ k → k ≤ targets_of (kind_at s.places m) → Ready s.rows s.places s.slots (slots_from s m) k
-  ready_at e k low high =
-      let n = length-map s.places shape in
-      let c = count_is s.places m in
-      let made-is = is_make_sort _ (ap make_sort (sort_is s sound m) ∙ e) in
-      let t = subst (λ o. TargetOf (shapes s.places) m (get_or s.slots (o * s.room.targets + (k - 1)) 0)) ordinal_is (sound.slots.slotted m (k - 1) in_tree made-is (omega arith)) in
-      let inside = t.within in
-      let r = sound.slots.row (get_or s.slots (slots_from s m + (k - 1)) 0) t.within t.sort in
-      let same = row_is s sound (get_or s.slots (slots_from s m + (k - 1)) 0) in
-      let whole = sound.rows.whole in
-      let few = sound.room.targets in
-      let most = sound.room.most_targets in
-      record { from_one = low; slot = declared_slot e k low high; place = omega arith; row = omega arith; few = omega arith }
-
-  -- the room for one target more
-  pub target_left : s.targets + 1 ≤ s.room.targets → (length s.rows + 8 ≤ s.room.targets * 8) × (slots_from s m ≤ 32768) × (length s.places < 1 + s.room.births + s.room.makes + s.room.targets)
-  target_left left =
-      let whole = sound.rows.whole in
-      let p = sound.room.places in
-      let b = sound.room.births in
-      let k = sound.room.makes in
-      (omega arith, first_few, omega arith)
-
-  pub ready_all : is_make (kind_at s.places m) ≡ true → (ks : List ℕ) → all_declared (targets_of (kind_at s.places m)) ks ≡ true
-      → (j : ℕ) → j < length ks → Ready s.rows s.places s.slots (slots_from s m) (get_or ks j 0)
-  ready_all e [] all j h = absurd (omega arith)
-  ready_all e (k ∷ ks) all zero h =
-      let p = and_parts (leb 1 k && leb k (targets_of (kind_at s.places m))) _ all in
-      let q = and_parts (leb 1 k) _ p.0 in
-      ready_at e k (leb-true _ _ q.0) (leb-true _ _ q.1)
-  ready_all e (k ∷ ks) all (suc j) h =
-      let p = and_parts (leb 1 k && leb k (targets_of (kind_at s.places m))) _ all in
-      ready_all e ks p.1 j (omega arith)
+pub ready : (s : Build) → Sound s → (m k : ℕ) → HasTarget s m k → Ready s m k
+ready s sound m k has =
+    let low = has.0 in
+    let high = has.1 in
+    let made = targets_make (kind_at s.places m) (omega arith) in
+    let c = count_is s.places m in
+    let f = targets_few s sound m made in
+    let t = subst (λ o. TargetOf (shapes s.places) m (get_or s.slots (o * s.room.targets + (k - 1)) 0)) (ordinal_is s sound m made)
+    (sound.slots.slotted m (k - 1) (in_tree s sound m made) (make_is s sound m made) (omega arith)) in
+    let r = sound.slots.row (target_at s m k) t.within t.sort in
+    let same = row_is s sound (target_at s m k) in
+    let rows = sound.room.targets in
+    let most = sound.room.most_targets in
+    record { made = made; slot = slot_within s sound m made (k - 1) (omega arith); sort = ap target_sort (sym (sort_is s sound _) ∙ t.sort); row = omega arith; few = omega arith }
 
 -- A table that was lent and walked through.
 pub walked_is : {Z : Type 0} (f : Place → Place) (v : Vec Place Z) (x : ℕ) {ps lent back : List Place} → length lent ≡ v.len → lent ≡ ps → back ≡ changed f lent (line (parents lent) x)
@@ -190,143 +180,74 @@ walked_is f v x {ps} {lent} {back} size is walked =
     let long = ap length walked ∙ length_changed f lent (line (parents lent) x) in
     with_items_is v back (long ∙ size) ∙ walked ∙ ap (λ qs. changed f qs (line (parents qs) x)) is
 
--- The state after a birth, by its tables.
-pub born_is : (s : Build) (p x : ℕ) (ps : List Place) {bs : List Birth} {qs : List Place} → bs ≡ s.births ++ record { process = p; home = x; live = true } ∷ [] → qs ≡ changed one_more ps (line (parents ps) x)
-    → record { number = s.number + 1; room = s.room; births = bs; places = qs; makes = s.makes; targets = s.targets; slots = s.slots; rows = s.rows } ≡ born_at s p ps x
-born_is s p x ps b q = λ i. record { number = s.number + 1; room = s.room; births = b i; places = q i; makes = s.makes; targets = s.targets; slots = s.slots; rows = s.rows }
-
--- the room that a birth leaves behind was there before it
-pub births_left : (s : Build) (p x : ℕ) (ps : List Place) → Sound (born_at s p ps x) → length s.births < s.room.births
-births_left s p x ps sound =
-    let long = length_push s.births (record { process = p; home = x; live = true }) in
-    let room = sound.room.births in
+-- and so was the room that a target leaves behind
+pub rows_left : (n : ℕ) (s : Build) (m : ℕ) (ks : List ℕ) → Sound (listed n s m ks) → length s.rows < s.room.targets
+rows_left n s m ks sound =
+    let long = length_push s.rows (joined_row s.rows (rows_of s m ks)) in
+    let room = sound.room.targets in
     omega arith
 
--- a birth and a make that there is room for have room among the places
-pub places_left : (s : Build) → Sound s → (length s.births < s.room.births) ⊎ (s.makes < s.room.makes) → length s.places < 1 + s.room.births + s.room.makes + s.room.targets
-places_left s sound left =
-    let p = sound.room.places in
-    let b = sound.room.births in
-    let m = sound.room.makes in
-    let t = sound.room.targets in
-    ⊎_elim (λ h. omega arith) (λ h. omega arith) left
-
-pub home_in : (s : Build) → Sound s → (i : ℕ) → i < length s.births → (birth_at s.births i).home < length s.places
-home_in s sound i h = let a = sound.births.housed i h in let b = length-map s.places shape in omega arith
-
-pub depth_few : (s : Build) → Sound s → (x : ℕ) → x < length s.places → (place_at s.places x).depth ≤ 16
-depth_few s sound x h =
-    let n = length-map s.places shape in
-    let d = sound.tree.shallow x (omega arith) in
-    let e = ap (λ (y : Shape). y.depth) (shape_is s.places x) in
+pub depth_few : (ps : List Place) → SoundTree (shapes ps) → (x : ℕ) → x < length ps → (place_at ps x).depth ≤ 16
+depth_few ps tree x h =
+    let n = length-map ps shape in
+    let d = tree.shallow x (omega arith) in
+    let e = ap (λ (y : Shape). y.depth) (shape_is ps x) in
     omega arith
+
+-- a birth of a live process is in the table
+pub live_within : (bs : List (Birth ℕ)) (i : ℕ) → (birth_at bs i).live ≡ true → i < length bs
+live_within [] i e = absurd (false≢true e)
+live_within (b ∷ bs) zero e = omega arith
+live_within (b ∷ bs) (suc i) e = let w = live_within bs i e in omega arith
 
 -- The state after a make, and after a death, by its tables: b is the birth that was changed.
-module _ (s : Build) (i home : ℕ) (b : Birth) (within : i < length s.births) (home-is : home ≡ (birth_at s.births i).home) (read : b ≡ get_or s.births i b) where
+module _ (n : ℕ) (s : Build) (i home : ℕ) (b : Birth ℕ) (live : (birth_at s.births i).live ≡ true) (home-is : home ≡ (birth_at s.births i).at) (read : b ≡ get_or s.births i b) where
   birth_is : b ≡ birth_at s.births i
-  birth_is = get_or_read s.births i b within read no_birth
+  birth_is = get_or_read s.births i b (live_within s.births i live) read no_birth
 
-  pub died_is : {Z : Type 0} (v : Vec Place Z) {lent back : List Place} → length lent ≡ v.len → lent ≡ s.places → back ≡ changed (one_less (s.number + 1)) lent (line (parents lent) home)
+  pub died_is : {qs : List Place} → qs ≡ changed (one_less n) s.places (line (parents s.places) home)
       → record {
-        number = s.number + 1;
+        number = n;
         room = s.room;
-        births = set s.births i (record { process = b.process; home = b.home; live = false });
-        places = (with_items v back).items;
+        births = set s.births i (record { process = b.process; at = b.at; live = false });
+        places = qs;
         makes = s.makes;
-        targets = s.targets;
         slots = s.slots;
         rows = s.rows;
-      } ≡ died s i
-  died_is v size is walked = λ j. record {
-    number = s.number + 1;
+      } ≡ ended n s i
+  died_is walked = λ j. record {
+    number = n;
     room = s.room;
-    births = set s.births i (record { process = (birth_is j).process; home = (birth_is j).home; live = false });
-    places = (walked_is (one_less (s.number + 1)) v home size is walked ∙ ap (λ x. changed (one_less (s.number + 1)) s.places (line (parents s.places) x)) home-is) j;
+    births = set s.births i (record { process = (birth_is j).process; at = (birth_is j).at; live = false });
+    places = (walked ∙ ap (λ x. changed (one_less n) s.places (line (parents s.places) x)) home-is) j;
     makes = s.makes;
-    targets = s.targets;
     slots = s.slots;
     rows = s.rows;
   }
 
-  pub turned_is : (at depth : ℕ) {qs : List Place} → at ≡ length s.places → depth ≡ (place_at s.places home).depth
-      → qs ≡ s.places ++ record { parent = home; depth = depth + 1; live = 1; kind = Make Unstarted s.makes 0 } ∷ []
+  pub turned_is : (at : ℕ) {qs : List Place} → at ≡ length s.places → qs ≡ make_added s.places home s.makes
       → record {
-        number = s.number + 1;
+        number = n;
         room = s.room;
-        births = set s.births i (record { process = b.process; home = at; live = b.live });
+        births = set s.births i (record { process = b.process; at = at; live = b.live });
         places = qs;
         makes = s.makes + 1;
-        targets = s.targets;
         slots = s.slots;
         rows = s.rows;
-      } ≡ turned_make s i
-  turned_is at depth at-is depth_is q =
-      let deep = depth_is ∙ ap (λ x. (place_at s.places x).depth) home-is in
-      λ j. record {
-        number = s.number + 1;
-        room = s.room;
-        births = set s.births i (record { process = (birth_is j).process; home = at-is j; live = (birth_is j).live });
-        places = (q ∙ (λ k. s.places ++ record { parent = home-is k; depth = deep k + 1; live = 1; kind = Make Unstarted s.makes 0 } ∷ [])) j;
-        makes = s.makes + 1;
-        targets = s.targets;
-        slots = s.slots;
-        rows = s.rows;
-      }
-
-pub stepped_is : {Z : Type 0} (s : Build) (p m t above step : ℕ) (v : Vec Place Z) {bs : List Birth} {lent back : List Place} → above ≡ target_at s m t → step ≡ length s.places
-    → bs ≡ s.births ++ record { process = p; home = step; live = true } ∷ [] → v.items ≡ step_added (s.number + 1) s.places m above
-    → length lent ≡ v.len → lent ≡ v.items → back ≡ changed one_more lent (line (parents lent) step)
-    → record { number = s.number + 1; room = s.room; births = bs; places = (with_items v back).items; makes = s.makes; targets = s.targets; slots = s.slots; rows = s.rows }
-    ≡ born_at s p (with_step s m t) (length s.places)
-stepped_is s p m t above step v above-is step_is b added size is walked =
-    born_is s p step v.items b (walked_is one_more v step size is walked) ∙ (λ i. born_at s p ((added ∙ ap (step_added (s.number + 1) s.places m) above-is) i) (step_is i))
-
-pub declared_is : (s : Build) (m : ℕ) (ks : List ℕ) (first next place : ℕ) {ps : List Place} {row rows : List ℕ} → first ≡ slots_from s m → next ≡ targets_of (kind_at s.places m)
-    → place ≡ length s.places → ps ≡ target_added s.places m s.targets → row ≡ joined_row s.rows (map (row_in s.places s.slots first) ks) → rows ≡ s.rows ++ row
-    → record { number = s.number + 1; room = s.room; births = s.births; places = ps; makes = s.makes; targets = s.targets + 1; slots = set s.slots (first + next) place; rows = rows }
-    ≡ declared s m ks
-declared_is s m ks first next place first-is next-is place_is p row-joined r = λ i. record {
-  number = s.number + 1;
-  room = s.room;
-  births = s.births;
-  places = p i;
-  makes = s.makes;
-  targets = s.targets + 1;
-  slots = set s.slots (first-is i + next-is i) (place_is i);
-  rows = (r ∙ ap (λ w. s.rows ++ w) (row-joined ∙ ap (λ f. joined_row s.rows (map (row_in s.places s.slots f) ks)) first-is)) i;
-}
-
--- the tables as they were lent
-pub ready_lent : {rows lent_rows slots lent-slots : List ℕ} {ps lent-places : List Place} {first given : ℕ} (k : ℕ) → lent_rows ≡ rows → lent-places ≡ ps → lent-slots ≡ slots → given ≡ first
-    → Ready rows ps slots first k → Ready lent_rows lent-places lent-slots given k
-ready_lent {rows} {lent_rows} {slots} {lent-slots} {ps} {lent-places} {first} {given} k r p s f h =
-    subst (λ x. Ready x lent-places lent-slots given k) (sym r) (subst (λ x. Ready rows x lent-slots given k) (sym p) (subst (λ x. Ready rows ps x given k) (sym s) (subst (λ x. Ready rows ps slots x k) (sym f) h)))
-
--- What the climb asks, of two known timestamps.
-pub record Climbable (ps : List Place) (x y : ℕ) : Type 0 where
-  pub rooted : Earlier (parents ps)
-  pub first : x < length ps
-  pub second : y < length ps
-  pub first_level : levels (parents ps) x ≤ 48
-  pub second_level : levels (parents ps) y ≤ 48
-
--- What the judgement at a meeting asks.
-pub record Judgeable (s : Build) (m : Meeting) : Type 0 where
-  pub place : m.place < length s.places
-  pub left : m.left < length s.places
-  pub right : m.right < length s.places
-  pub left_row : is_make (kind_at s.places m.place) ≡ true → row_of (kind_at s.places m.left) < s.targets
-  pub right_row : is_make (kind_at s.places m.place) ≡ true → row_of (kind_at s.places m.right) < s.targets
+      } ≡ turned n s i
+  turned_is at at-is added = λ j. record {
+    number = n;
+    room = s.room;
+    births = set s.births i (record { process = (birth_is j).process; at = at-is j; live = (birth_is j).live });
+    places = (added ∙ ap (λ x. make_added s.places x s.makes) home-is) j;
+    makes = s.makes + 1;
+    slots = s.slots;
+    rows = s.rows;
+  }
 
 module _ (s : Build) (sound : Sound s) where
   level_few : (x : ℕ) → x < length s.places → levels (parents s.places) x ≤ 48
   level_few x h = let n = length-map s.places shape in levels_few (shapes s.places) sound.tree x (omega arith)
-
-  pub climbable : (a b : Timestamp) → known_in s a ≡ true → known_in s b ≡ true → Climbable s.places a.place b.place
-  climbable a b ka kb =
-      let p = (known_parts s a ka).within in
-      let q = (known_parts s b kb).within in
-      record { rooted = sound.tree.earlier; first = p; second = q; first_level = level_few a.place p; second_level = level_few b.place q }
 
   -- a side is not below what it is the side of
   side_low : (c l x : ℕ) → Holds (parents s.places) c x → Side (parents s.places) c l x → l ≤ x
@@ -343,9 +264,10 @@ module _ (s : Build) (sound : Sound s) where
       let l = side_low m.place m.left a.place meets.lowest.first meets.left in
       let r = side_low m.place m.right b.place meets.lowest.second meets.right in
       record {
-        place = omega arith;
         left = omega arith;
         right = omega arith;
+        left_kind = side_kind s sound m.place m.left a.place (omega arith) p.stands meets.left;
+        right_kind = side_kind s sound m.place m.right b.place (omega arith) q.stands meets.right;
         left_row = λ e. side_row s sound m.place m.left a.place e p.within p.stands meets.left;
         right_row = λ e. side_row s sound m.place m.right b.place e q.within q.stands meets.right;
       }

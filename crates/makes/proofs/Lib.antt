@@ -1,6 +1,4 @@
 pub mod Asked
-pub mod Declared
-pub mod Once
 pub mod Runs
 pub mod RunsEvents
 pub mod RunsFollows
@@ -10,6 +8,5 @@ pub mod RunsPlaces
 pub mod RunsRows
 pub mod RunsTimes
 pub mod RunsWhole
-pub mod Search
 pub mod Starts
 pub mod Taken

@@ -1,5 +1,6 @@
 -- The make order over whole runs: its answers are what the calls tell.
 use Rattle.std.proofs.Common.{◌≡◌, ℕ, ◌+◌, ◌<◌, true, false, eqb, ◌⊎◌, List, length, IfOk, Some, Ok, Err, Decides, Result, sym, refl, ap, ◌∙◌, subst, inl, inr, ⊎_elim, arith}
+use Rattle.std.proofs.lemmas.Option.{same_Some}
 use Rattle.std.proofs.lemmas.List.{length-map, get_or_past}
 use Rattle.std.proofs.lemmas.Result.{IfOk-at_ok}
 use Rattle.std.proofs.lemmas.Bool.{false≢true, eq-eqb, ne_eqb, cond-true, cond-false, cases_eq, cases_lt}
@@ -23,14 +24,13 @@ use Rattle.makes.specs.Lawful.{KnownParts, known_parts, known_from, before_parts
 use Rattle.makes.proofs.RunsPlaces.{sort_told, size, found_stands}
 use Rattle.makes.proofs.RunsRows.{TargetPlace, prerequisite_rows}
 use Rattle.makes.proofs.Starts.{new_sound}
-use Rattle.makes.specs.Times.{some_some}
 use Rattle.makes.specs.TreeLemmas.{climb_meets, meets_only, branch_apart, holds_le}
 use Rattle.makes.specs.Views.{start_is, end_is}
 use Rattle.makes.proofs.RunsOrderly.{stand_told, orderly}
 use Rattle.makes.proofs.RunsWhole.{Whole, Stamped, stamped, whole}
 
 session_no_step : session ≡ step → ⊥
-session_no_step e = let z : ◌≡◌ {A = ℕ} 0 1 = cc in omega arith
+session_no_step e = cc
 
 -- below what is no make stands what starts and ends
 below_lasts : (child above : Sort) → fits_below child above ≡ true → make_sort above ≡ false → lasting child ≡ true
@@ -40,10 +40,10 @@ below_lasts a_target above f m = absurd (false≢true (sym m ∙ f))
 below_lasts step above f m = refl
 
 target_no_stand : (k : Sort) → k ≡ a_target → stand_sort k ≡ true → ⊥
-target_no_stand session e s = let z : ◌≡◌ {A = ℕ} 0 1 = cc in omega arith
+target_no_stand session e s = cc
 target_no_stand a_make e s = false≢true s
 target_no_stand a_target e s = false≢true s
-target_no_stand step e s = let z : ◌≡◌ {A = ℕ} 0 1 = cc in omega arith
+target_no_stand step e s = cc
 
 module _ {calls : List Call} {s : Build} (w : Whole calls s) where
   in_shapes : {x : ℕ} → x < length s.places → x < length (shapes s.places)
@@ -72,7 +72,7 @@ module _ {calls : List Call} {s : Build} (w : Whole calls s) where
   side_start_to : (c x n k : ℕ) → side_start s.places c x n ≡ Some k → SideStarts calls c x n k
   side_start_to c x n k e =
       ⊎_elim
-      (λ here. inl (here, some_some (sym e ∙ cond-true (eqb x c) _ _ (eq-eqb x c here))))
+      (λ here. inl (here, same_Some _ _ (sym e ∙ cond-true (eqb x c) _ _ (eq-eqb x c here))))
       (λ ne. inr (ne, w.timed.starts_to x k (start_is s.places x ∙ sym (cond-false (eqb x c) _ _ (ne_eqb x c ne)) ∙ e)))
       (cases_eq x c)
 
@@ -83,7 +83,7 @@ module _ {calls : List Call} {s : Build} (w : Whole calls s) where
   side_end_to : (c x n k : ℕ) → side_end s.places c x n ≡ Some k → SideEnds calls c x n k
   side_end_to c x n k e =
       ⊎_elim
-      (λ here. inl (here, some_some (sym e ∙ cond-true (eqb x c) _ _ (eq-eqb x c here))))
+      (λ here. inl (here, same_Some _ _ (sym e ∙ cond-true (eqb x c) _ _ (eq-eqb x c here))))
       (λ ne. inr (ne, w.timed.ends_to x k (end_is s.places x ∙ sym (cond-false (eqb x c) _ _ (ne_eqb x c ne)) ∙ e)))
       (cases_eq x c)
 

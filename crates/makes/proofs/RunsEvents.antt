@@ -18,15 +18,15 @@ use Rattle.makes.specs.Turns.{turned_later, declared_later}
 
 -- the home of a parent: the session, or that of a live process
 abbrev pub Parent : Build → ℕ → ℕ → Type 0
-Parent s q h = ((q ≡ 0) × (h ≡ 0)) ⊎ ((i : ℕ) × (q ≡ 0 → ⊥) × Found s.births q i × ((birth_at s.births i).home ≡ h))
+Parent s q h = ((q ≡ 0) × (h ≡ 0)) ⊎ ((i : ℕ) × (q ≡ 0 → ⊥) × Found s.births q i × ((birth_at s.births i).at ≡ h))
 
 pub data Did (s : Build) : Told → Build → Type 0 where
   did_born : {p q t h : ℕ} → eqb t 0 ≡ true → Parent s q h → Nobody s.births p → Did s (birth p q t) (born_at s p s.places (stand s.places h))
   did_step : {p q t h : ℕ} → eqb t 0 ≡ false → Parent s q h → is_make (kind_at s.places h) ≡ true → t ≤ targets_of (kind_at s.places h) → Nobody s.births p
       → Did s (birth p q t) (born_at s p (with_step s h t) (length s.places))
-  did_make : {p i : ℕ} → Found s.births p i → is_make (kind_at s.places (birth_at s.births i).home) ≡ false → Did s (make p) (turned_make s i)
-  did_target : {p i h : ℕ} {ks : List ℕ} → Found s.births p i → (birth_at s.births i).home ≡ h → is_make (kind_at s.places h) ≡ true
-      → all_declared (targets_of (kind_at s.places h)) ks ≡ true → s.targets < s.room.targets → Did s (target p ks) (declared s h ks)
+  did_make : {p i : ℕ} → Found s.births p i → is_make (kind_at s.places (birth_at s.births i).at) ≡ false → Did s (make p) (turned_make s i)
+  did_target : {p i h : ℕ} {ks : List ℕ} → Found s.births p i → (birth_at s.births i).at ≡ h → is_make (kind_at s.places h) ≡ true
+      → all_declared (targets_of (kind_at s.places h)) ks ≡ true → length s.rows < s.room.targets → Did s (target p ks) (declared s h ks)
   did_death : {p i : ℕ} → Found s.births p i → Did s (death p) (died s i)
 
 -- the event did this, and the state after it is a later one
@@ -41,7 +41,7 @@ module _ (s : Build) (sound : Sound s) where
   parent_found : (q : ℕ) → IfSome (parent_home s q) (Parent s q)
   parent_found q = go (eqb q 0) refl
     where
-      home : (q ≡ 0 → ⊥) → (o : Option ℕ) → MatchOption o (Nobody s.births q) (λ i. Found s.births q i) → IfSome (option_map (λ i. (birth_at s.births i).home) o) (Parent s q)
+      home : (q ≡ 0 → ⊥) → (o : Option ℕ) → MatchOption o (Nobody s.births q) (λ i. Found s.births q i) → IfSome (option_map (λ i. (birth_at s.births i).at) o) (Parent s q)
       home ne None h = tt
       home ne (Some i) h = inr (i, ne, h, refl)
 
@@ -79,15 +79,15 @@ module _ (s : Build) (sound : Sound s) where
   make_did : (p : ℕ) (o : Option ℕ) → MatchOption o (Nobody s.births p) (λ i. Found s.births p i) → IfOk (make_from s o) (Done s (make p))
   make_did p None h = tt
   make_did p (Some i) f =
-      passing (Done s (make p)) (make_checks s (birth_at s.births i).home) (Ok (turned_make s i)) (λ passed.
+      passing (Done s (make p)) (make_checks s (birth_at s.births i).at) (Ok (turned_make s i)) (λ passed.
       let more = counted_on s.number sound.number passed.1.1.1.0 in
       (did_make f passed.0, turned_later s sound more i f.within f.live passed.0 (leb-false _ _ passed.1.0) (leb-false _ _ passed.1.1.0)))
 
-  target_did : (p : ℕ) (ks : List ℕ) (o : Option ℕ) → MatchOption o (Nobody s.births p) (λ i. Found s.births p i) → IfOk (target_from s ks (option_map (λ i. (birth_at s.births i).home) o)) (Done s (target p ks))
+  target_did : (p : ℕ) (ks : List ℕ) (o : Option ℕ) → MatchOption o (Nobody s.births p) (λ i. Found s.births p i) → IfOk (target_from s ks (option_map (λ i. (birth_at s.births i).at) o)) (Done s (target p ks))
   target_did p ks None h = tt
   target_did p ks (Some i) f =
-      let h = (birth_at s.births i).home in
-      passing (Done s (target p ks)) (target_checks s (birth_at s.births i).home ks) (Ok (declared s (birth_at s.births i).home ks)) (λ passed.
+      let h = (birth_at s.births i).at in
+      passing (Done s (target p ks)) (target_checks s (birth_at s.births i).at ks) (Ok (declared s (birth_at s.births i).at ks)) (λ passed.
       let more = counted_on s.number sound.number passed.1.1.1.0 in
       let within = home_within s sound h (inr (i, f.within, f.live, refl)) in
       let is = not-false _ passed.0 in

@@ -53,7 +53,7 @@ module _ {calls : List Call} (s : Build) (f : Follows calls s) (sound : Sound s)
           sorts = ap (map (λ (z : Shape). z.sort)) (more_shapes s.places home) ∙ f.sorts ∙ sym (cond-true (eqb t 0) _ _ none_named);
           tree = ap parents_of (more_shapes s.places home) ∙ f.tree ∙ sym (cond-true (eqb t 0) _ _ none_named);
           living =
-              birth_cases s.births (record { process = p; home = home; live = true }) (λ i y. y.live ≡ true → Standing after born_state.places y.process y.home)
+              birth_cases s.births (record { process = p; at = home; live = true }) (λ i y. y.live ≡ true → Standing after born_state.places y.process y.at)
               (λ i w l.
               let w' : Found s.births (birth_at s.births i).process i = record { within = w; live = l; process = refl } in
               let on = other_place (birth_at s.births i).process (λ e. nobody i (record { within = w; live = l; process = sym e })) in
@@ -94,7 +94,7 @@ module _ {calls : List Call} (s : Build) (f : Follows calls s) (sound : Sound s)
           sorts = more_sorts s step_state f later (new_step s h t) on_shapes ∙ sym (cond-false (eqb t 0) _ _ named);
           tree = more_parents s step_state f later (new_step s h t) on_shapes _ step_parent ∙ sym (cond-false (eqb t 0) _ _ named);
           living =
-              birth_cases s.births (record { process = p; home = home; live = true }) (λ i y. y.live ≡ true → Standing after step_state.places y.process y.home)
+              birth_cases s.births (record { process = p; at = home; live = true }) (λ i y. y.live ≡ true → Standing after step_state.places y.process y.at)
               (λ i w l.
               let w' : Found s.births (birth_at s.births i).process i = record { within = w; live = l; process = refl } in
               let on = others (birth_at s.births i).process (λ e. nobody i (record { within = w; live = l; process = sym e })) in
@@ -115,12 +115,12 @@ module _ {calls : List Call} (s : Build) (f : Follows calls s) (sound : Sound s)
         }
 
 -- A process that turns out to be a make.
-module _ {calls : List Call} (s : Build) (f : Follows calls s) (sound : Sound s) (p i : ℕ) (own : Found s.births p i) (no_make : is_make (kind_at s.places (birth_at s.births i).home) ≡ false) where
+module _ {calls : List Call} (s : Build) (f : Follows calls s) (sound : Sound s) (p i : ℕ) (own : Found s.births p i) (no_make : is_make (kind_at s.places (birth_at s.births i).at) ≡ false) where
   abbrev made_state : Build
   made_state = turned_make s i
 
-  stood : place_in calls p ≡ Some (birth_at s.births i).home
-  stood = (found_stands f sound own).place ∙ ap Some (cond-false (is_make (kind_at s.places (birth_at s.births i).home)) _ _ no_make)
+  stood : place_in calls p ≡ Some (birth_at s.births i).at
+  stood = (found_stands f sound own).place ∙ ap Some (cond-false (is_make (kind_at s.places (birth_at s.births i).at)) _ _ no_make)
 
   module _ (later : Later s (turned_make s i)) (taken : EventTaken make_machine s (make p) (turned_make s i)) where
     pub make_follows : Follows (tell (make p) ∷ calls) (turned_make s i)
@@ -136,7 +136,7 @@ module _ {calls : List Call} (s : Build) (f : Follows calls s) (sound : Sound s)
           sorts = more_sorts s made_state f later y on_shapes;
           tree = more_parents s made_state f later y on_shapes _ (ap the (sym stood));
           living =
-              set_cases s.births i (record { process = (birth_at s.births i).process; home = home; live = (birth_at s.births i).live }) own.within (λ j z. z.live ≡ true → Standing after made_state.places z.process z.home)
+              set_cases s.births i (record { process = (birth_at s.births i).process; at = home; live = (birth_at s.births i).live }) own.within (λ j z. z.live ≡ true → Standing after made_state.places z.process z.at)
               (λ j w ne l.
               let w' : Found s.births (birth_at s.births j).process j = record { within = w; live = l; process = refl } in
               let other : p ≡ (birth_at s.births j).process → ⊥ = λ e. ne (sound.births.only j i w own.within l own.live (sym e ∙ sym own.process)) in
@@ -177,7 +177,7 @@ module _ {calls : List Call} (s : Build) (f : Follows calls s) (sound : Sound s)
           sorts = ap (map (λ (z : Shape). z.sort)) (death_shapes s i) ∙ f.sorts;
           tree = ap parents_of (death_shapes s i) ∙ f.tree;
           living =
-              set_cases s.births i (record { process = (birth_at s.births i).process; home = (birth_at s.births i).home; live = false }) own.within (λ j z. z.live ≡ true → Standing after dead_state.places z.process z.home)
+              set_cases s.births i (record { process = (birth_at s.births i).process; at = (birth_at s.births i).at; live = false }) own.within (λ j z. z.live ≡ true → Standing after dead_state.places z.process z.at)
               (λ j w ne l.
               let w' : Found s.births (birth_at s.births j).process j = record { within = w; live = l; process = refl } in
               let other : p ≡ (birth_at s.births j).process → ⊥ = λ e. ne (sound.births.only j i w own.within l own.live (sym e ∙ sym own.process)) in
@@ -206,8 +206,8 @@ stamp_follows s p f later = record {
 }
 
 -- A new target of the make h.
-module _ {calls : List Call} (s : Build) (f : Follows calls s) (sound : Sound s) (p i h : ℕ) (ks : List ℕ) (own : Found s.births p i) (at : (birth_at s.births i).home ≡ h)
-    (makes : is_make (kind_at s.places h) ≡ true) (room : s.targets < s.room.targets) where
+module _ {calls : List Call} (s : Build) (f : Follows calls s) (sound : Sound s) (p i h : ℕ) (ks : List ℕ) (own : Found s.births p i) (at : (birth_at s.births i).at ≡ h)
+    (makes : is_make (kind_at s.places h) ≡ true) (room : length s.rows < s.room.targets) where
   abbrev grown_state : Build
   grown_state = declared s h ks
 

@@ -1,5 +1,6 @@
 -- Over a run, processes, places, starts and ends are in order.
 use Rattle.std.proofs.Common.{◌≡◌, ℕ, ◌+◌, ◌<◌, ◌≤◌, Bool, true, cond, eqb, ◌⊎◌, List, [], ◌∷◌, length, get_or, is_some, Some, None, Decides, count_by, sym, refl, ap, ◌∙◌, subst, inl, inr, ⊎_elim, arith}
+use Rattle.std.proofs.lemmas.Option.{same_Some}
 use Rattle.std.proofs.lemmas.List.{length-map, get_or_past}
 use Rattle.std.proofs.lemmas.Bool.{false≢true, eqb-true, eq-eqb, cases_eq, cases_lt, cases_Bool}
 use Rattle.order.specs.Runs.{Call, Alive}
@@ -15,25 +16,19 @@ use Rattle.makes.specs.Entries.{stand_within, stand_is_stand}
 use Rattle.makes.specs.Found.{live_decides}
 use Rattle.makes.specs.Judging.{sort_is, stand_step, held_started}
 use Rattle.makes.specs.Later.{up_shape}
+use Rattle.makes.proofs.Asked.{targets_make}
 use Rattle.makes.proofs.RunsPeopled.{own_home, found_placed, found_made, stand_above, in_shapes, peopled_to, peopled_from}
 use Rattle.makes.proofs.RunsPlaces.{size, sort_told, found_stands}
 use Rattle.makes.proofs.RunsTimes.{is_there}
 use Rattle.makes.proofs.RunsWhole.{Whole}
 use Rattle.makes.specs.Shapes.{count_is, count_by_cons, levels_few, is_make_sort}
-use Rattle.makes.specs.Times.{some_some}
 use Rattle.makes.specs.Views.{start_is}
 
--- only a make has targets, and each step has its start
-targets_make : (k : Kind) → 0 < targets_of k → sort_of k ≡ a_make
-targets_make Session h = absurd (omega arith)
-targets_make (Make status ordinal targets) h = refl
-targets_make (Target row) h = absurd (omega arith)
-targets_make (Step start end) h = absurd (omega arith)
-
+-- each step has its start
 step_start : (k : Kind) → sort_of k ≡ step → is_some (start_of k) ≡ true
-step_start Session e = absurd (let z : ◌≡◌ {A = ℕ} 0 1 = cc in omega arith)
-step_start (Make status ordinal targets) e = absurd (let z : ◌≡◌ {A = ℕ} 0 1 = cc in omega arith)
-step_start (Target row) e = absurd (let z : ◌≡◌ {A = ℕ} 0 1 = cc in omega arith)
+step_start Session e = cc
+step_start (Make m) e = cc
+step_start (Target row) e = cc
 step_start (Step start end) e = refl
 
 session_lasts_not : (k : Sort) → k ≡ session → lasting k ≡ true → ⊥
@@ -67,15 +62,15 @@ module _ {calls : List Call} {s : Build} (w : Whole calls s) where
   stands_at : (p x : ℕ) → place_in calls p ≡ Some x → (x ≡ 0) ⊎ (sort_in calls x ≡ step)
   stands_at p x e =
       let f = found_placed w.follows w.sound e in
-      let h = (birth_at s.births f.0).home in
-      let at = some_some (sym (found_stands w.follows w.sound f.1).place ∙ e) in
+      let h = (birth_at s.births f.0).at in
+      let at = same_Some _ _ (sym (found_stands w.follows w.sound f.1).place ∙ e) in
       let lodged = inr (f.0, f.1.within, f.1.live, refl) in
       subst (λ y. (y ≡ 0) ⊎ (sort_in calls y ≡ step)) at (stand_told (stand s.places h) (stand_within s w.sound h lodged) (stand_is_stand s w.sound h lodged))
 
   owned_at : (p m : ℕ) → make_in calls p ≡ Some m → (sort_in calls m ≡ a_make) × (place_in calls p ≡ Some (up (parents_in calls) m))
   owned_at p m e =
       let f = found_made w.follows w.sound e in
-      let h = (birth_at s.births f.0).home in
+      let h = (birth_at s.births f.0).at in
       let st = found_stands w.follows w.sound f.1 in
       let at = own_home (is_make (kind_at s.places h)) h m (sym st.own ∙ e) in (
         told m ∙ is_make_sort _ (ap (λ y. make_sort (shape_at (shapes s.places) y).sort) (sym at.1) ∙ ap make_sort (sort_is s w.sound h) ∙ at.0),
@@ -89,7 +84,7 @@ module _ {calls : List Call} {s : Build} (w : Whole calls s) where
       let l = length-map s.places (λ (y : Place). targets_of y.kind) in
       let within : m < length s.places =
       ⊎_elim (λ h. h) (λ past. let z = get_or_past (counts s.places) m 0 (omega arith) in absurd (omega arith)) (cases_lt m (length s.places)) in
-      let sort = sort_is s w.sound m ∙ targets_make (kind_at s.places m) (omega arith) in
+      let sort = is_make_sort _ (ap make_sort (sort_is s w.sound m) ∙ targets_make (kind_at s.places m) (omega arith)) in
       let t = subst (TargetOf (shapes s.places) m) (w.follows.slotted m k within sort (omega arith)) (w.sound.slots.slotted m k (in_shapes w.follows w.sound within) sort (omega arith)) in
       let y = get_or (targets_in calls m) k 0 in
       (told y ∙ t.sort, ap (λ us. up us y) (sym w.follows.tree) ∙ up_shape s.places y ∙ t.parent)
@@ -153,8 +148,8 @@ module _ {calls : List Call} {s : Build} (w : Whole calls s) where
     fits = fits_at;
     shallow = shallow_at;
     started = started_at;
-    once_started = λ x n k a b. some_some (sym (w.timed.starts_from x n a) ∙ w.timed.starts_from x k b);
-    once_ended = λ x n k l a b. some_some (sym (w.timed.ends_from x n (lasts x l) a) ∙ w.timed.ends_from x k (lasts x l) b);
+    once_started = λ x n k a b. same_Some _ _ (sym (w.timed.starts_from x n a) ∙ w.timed.starts_from x k b);
+    once_ended = λ x n k l a b. same_Some _ _ (sym (w.timed.ends_from x n (lasts x l) a) ∙ w.timed.ends_from x k (lasts x l) b);
     forward = λ x n k l a b. w.sound.times.forward x n k (w.timed.starts_from x n a) (w.timed.ends_from x k (lasts x l) b);
     over = ended_or_peopled;
     never_again = ended_unpeopled;

@@ -1,8 +1,8 @@
 -- Over a run, a place's count is not 0 exactly if somebody lives at or below it, or is the make that it is.
 use Rattle.std.proofs.Common.{◌≡◌, ℕ, ◌<◌, Bool, true, false, cond, List, length, get_or, Some, None, sym, refl, ap, ◌∙◌, subst, ⊎_elim, arith}
+use Rattle.std.proofs.lemmas.Option.{none-some, same_Some}
 use Rattle.std.proofs.lemmas.List.{length-map}
 use Rattle.std.proofs.lemmas.Bool.{and_parts, cond-true, cond-false, cases_Bool}
-use Rattle.order.proofs.Absent.{none≢some}
 use Rattle.order.specs.Runs.{Call}
 use Rattle.makes.specs.Machine.{Build, lives_in}
 use Rattle.makes.specs.Places.{make_sort, is_make, kind_at, Shape, shape, shapes, parents, lives, stand, birth_at}
@@ -14,14 +14,13 @@ use Rattle.makes.specs.Law.{counted_some}
 use Rattle.makes.specs.Lodgers.{lodger_counts}
 use Rattle.makes.proofs.RunsPlaces.{Standing, Follows, found_stands, housed}
 use Rattle.makes.specs.Shapes.{shape_is, above_make, is_make_sort}
-use Rattle.makes.specs.Times.{some_some}
 use Rattle.makes.specs.TreeLemmas.{holds_decides, holds_le, holds_split}
 use Rattle.makes.specs.Walks.{up_at}
 
 -- a process's own make is its home
 pub own_home : (b : Bool) (h x : ℕ) → cond b (Some h) None ≡ Some x → (b ≡ true) × (h ≡ x)
-own_home true h x e = (refl, some_some e)
-own_home false h x e = absurd (none≢some e)
+own_home true h x e = (refl, same_Some _ _ e)
+own_home false h x e = absurd (none-some _ e)
 
 module _ {calls : List Call} {s : Build} (f : Follows calls s) (sound : Sound s) where
   pub in_shapes : {x : ℕ} → x < length s.places → x < length (shapes s.places)
@@ -29,10 +28,10 @@ module _ {calls : List Call} {s : Build} (f : Follows calls s) (sound : Sound s)
 
   -- what the calls tell of a live process, they tell of one that lives
   pub found_placed : {p y : ℕ} → place_in calls p ≡ Some y → (i : ℕ) × Found s.births p i
-  found_placed {p} e = ⊎_elim (live_decides s.births p).0 (λ dead. absurd (none≢some (sym (f.nobody p dead).0 ∙ e))) (cases_Bool (lives_in s p))
+  found_placed {p} e = ⊎_elim (live_decides s.births p).0 (λ dead. absurd (none-some _ (sym (f.nobody p dead).0 ∙ e))) (cases_Bool (lives_in s p))
 
   pub found_made : {p y : ℕ} → make_in calls p ≡ Some y → (i : ℕ) × Found s.births p i
-  found_made {p} e = ⊎_elim (live_decides s.births p).0 (λ dead. absurd (none≢some (sym (f.nobody p dead).1 ∙ e))) (cases_Bool (lives_in s p))
+  found_made {p} e = ⊎_elim (live_decides s.births p).0 (λ dead. absurd (none-some _ (sym (f.nobody p dead).1 ∙ e))) (cases_Bool (lives_in s p))
 
   -- where a make's process stands is right above it
   pub stand_above : (h : ℕ) → is_make (kind_at s.places h) ≡ true → stand s.places h ≡ up (parents s.places) h
@@ -73,19 +72,19 @@ module _ {calls : List Call} {s : Build} (f : Follows calls s) (sound : Sound s)
       let l = sound.births.live x (in_shapes w) in
       let r = counted_some (counts_at (parents s.places) x) s.births (omega arith) in
       let p = and_parts (birth_at s.births r.0).live _ r.2 in
-      home_peoples x (birth_at s.births r.0).process (birth_at s.births r.0).home (f.living r.0 r.1 p.0)
-      ((holds_decides (parents s.places) sound.tree.earlier x (birth_at s.births r.0).home).0 p.1)
+      home_peoples x (birth_at s.births r.0).process (birth_at s.births r.0).at (f.living r.0 r.1 p.0)
+      ((holds_decides (parents s.places) sound.tree.earlier x (birth_at s.births r.0).at).0 p.1)
 
   -- who peoples a place has a home there
-  pub peopled_home : (x : ℕ) → Peopled calls x → (i : ℕ) × (i < length s.births) × ((birth_at s.births i).live ≡ true) × Holds (parents s.places) x (birth_at s.births i).home
+  pub peopled_home : (x : ℕ) → Peopled calls x → (i : ℕ) × (i < length s.births) × ((birth_at s.births i).live ≡ true) × Holds (parents s.places) x (birth_at s.births i).at
   peopled_home x (below p {y} e held) =
       let w = found_placed e in
-      let h = (birth_at s.births w.0).home in
-      let at = some_some (sym (found_stands f sound w.1).place ∙ e) in
+      let h = (birth_at s.births w.0).at in
+      let at = same_Some _ _ (sym (found_stands f sound w.1).place ∙ e) in
       (w.0, w.1.within, w.1.live, stand_holds x h (housed f sound w.1) (subst (Holds (parents s.places) x) (sym at) (state_holds held)))
   peopled_home x (own p e) =
       let w = found_made e in
-      let h = (birth_at s.births w.0).home in
+      let h = (birth_at s.births w.0).at in
       let at = own_home (is_make (kind_at s.places h)) h x (sym (found_stands f sound w.1).own ∙ e) in
       (w.0, w.1.within, w.1.live, subst (λ z. Holds (parents s.places) z h) at.1 itself)
 
@@ -102,5 +101,5 @@ module _ {calls : List Call} {s : Build} (f : Follows calls s) (sound : Sound s)
       let r = peopled_home x on in
       let w = peopled_within x on in
       let l = sound.births.live x (in_shapes w) in
-      let c = lodger_counts (parents s.places) s.births x r.0 r.1 r.2 ((holds_decides (parents s.places) sound.tree.earlier x (birth_at s.births r.0).home).1 r.3) in
+      let c = lodger_counts (parents s.places) s.births x r.0 r.1 r.2 ((holds_decides (parents s.places) sound.tree.earlier x (birth_at s.births r.0).at).1 r.3) in
       omega arith

@@ -25,10 +25,10 @@ abbrev pub new_step : Build → ℕ → ℕ → Place
 new_step s m t = record { parent = target_at s m t; depth = (place_at s.places m).depth; live = 0; kind = Step (s.number + 1) None }
 
 abbrev pub new_make : Build → ℕ → Place
-new_make s i = record { parent = (birth_at s.births i).home; depth = (place_at s.places (birth_at s.births i).home).depth + 1; live = 1; kind = Make Unstarted s.makes 0 }
+new_make s i = record { parent = (birth_at s.births i).at; depth = (place_at s.places (birth_at s.births i).at).depth + 1; live = 1; kind = Make (record { status = Unstarted; ordinal = s.makes; targets = 0 }) }
 
 abbrev pub new_target : Build → ℕ → Place
-new_target s m = record { parent = m; depth = (place_at s.places m).depth; live = 0; kind = Target s.targets }
+new_target s m = record { parent = m; depth = (place_at s.places m).depth; live = 0; kind = Target (length s.rows) }
 
 -- One place more: how many there are, and the shape of the new one.
 module _ (s t : Build) (y : Place) (e : shapes t.places ≡ shapes s.places ++ shape y ∷ []) where
@@ -67,7 +67,7 @@ module _ (s : Build) where
       ∙ ap (λ ts. ts ++ shape (new_target s m) ∷ []) (map_set_same shape s.places m (grown_place m) no_place (declared_shape 0 (place_at s.places m) (kind_at s.places m)))
 
   pub death_shapes : (i : ℕ) → shapes (died s i).places ≡ shapes s.places
-  death_shapes i = changed_same shape (one_less (s.number + 1)) (less_shape (s.number + 1)) s.places (line (parents s.places) (birth_at s.births i).home)
+  death_shapes i = changed_same shape (one_less (s.number + 1)) (less_shape (s.number + 1)) s.places (line (parents s.places) (birth_at s.births i).at)
 
   -- how many targets each make has
   pub step_counts : (p m t x : ℕ) → get_or (counts (born_at s p (with_step s m t) (length s.places)).places) x 0 ≡ get_or (counts s.places) x 0
@@ -83,7 +83,7 @@ module _ (s : Build) where
   make_counts i x = ap (λ cs. get_or cs x 0) (map_push (λ (y : Place). targets_of y.kind) s.places (new_make s i)) ∙ count_more (counts s.places) x
 
   pub death_counts : (i : ℕ) → counts (died s i).places ≡ counts s.places
-  death_counts i = changed_same (λ (p : Place). targets_of p.kind) (one_less (s.number + 1)) (less_targets (s.number + 1)) s.places (line (parents s.places) (birth_at s.births i).home)
+  death_counts i = changed_same (λ (p : Place). targets_of p.kind) (one_less (s.number + 1)) (less_targets (s.number + 1)) s.places (line (parents s.places) (birth_at s.births i).at)
 
   -- a new target of the make m
   module _ (m : ℕ) (ks : List ℕ) (within : m < length s.places) (makes : is_make (kind_at s.places m) ≡ true) where
@@ -118,7 +118,7 @@ pub record Follows (calls : List Call) (s : Build) : Type 0 where
   pub counted : s.number ≡ length calls
   pub sorts : map (λ (y : Shape). y.sort) (shapes s.places) ≡ sorts_in calls
   pub tree : parents s.places ≡ parents_in calls
-  pub living : (i : ℕ) → i < length s.births → (birth_at s.births i).live ≡ true → Standing calls s.places (birth_at s.births i).process (birth_at s.births i).home
+  pub living : (i : ℕ) → i < length s.births → (birth_at s.births i).live ≡ true → Standing calls s.places (birth_at s.births i).process (birth_at s.births i).at
   pub nobody : (p : ℕ) → lives_in s p ≡ false → (place_in calls p ≡ None) × (make_in calls p ≡ None)
   pub declared : (m : ℕ) → length (targets_in calls m) ≡ get_or (counts s.places) m 0
   pub slotted : (m k : ℕ) → m < length s.places → (shape_at (shapes s.places) m).sort ≡ a_make → k < get_or (counts s.places) m 0
@@ -162,13 +162,13 @@ module _ {calls : List Call} {s : Build} (f : Follows calls s) (sound : Sound s)
   pub sort_told : (x : ℕ) → sort_in calls x ≡ (shape_at (shapes s.places) x).sort
   sort_told x = ap (λ ks. get_or ks x session) (sym f.sorts) ∙ sort_of_shapes (shapes s.places) x
 
-  pub found_stands : {p i : ℕ} → Found s.births p i → Standing calls s.places p (birth_at s.births i).home
-  found_stands {p} {i} w = subst (λ q. Standing calls s.places q (birth_at s.births i).home) w.process (f.living i w.within w.live)
+  pub found_stands : {p i : ℕ} → Found s.births p i → Standing calls s.places p (birth_at s.births i).at
+  found_stands {p} {i} w = subst (λ q. Standing calls s.places q (birth_at s.births i).at) w.process (f.living i w.within w.live)
 
-  pub housed : {p i : ℕ} → Found s.births p i → (birth_at s.births i).home < length s.places
+  pub housed : {p i : ℕ} → Found s.births p i → (birth_at s.births i).at < length s.places
   housed {p} {i} w = let a = sound.births.housed i w.within in let b = length-map s.places shape in omega arith
 
-  pub found_make : {p i h : ℕ} → Found s.births p i → (birth_at s.births i).home ≡ h → is_make (kind_at s.places h) ≡ true → make_in calls p ≡ Some h
+  pub found_make : {p i h : ℕ} → Found s.births p i → (birth_at s.births i).at ≡ h → is_make (kind_at s.places h) ≡ true → make_in calls p ≡ Some h
   found_make {p} {i} {h} w at makes = (found_stands w).own ∙ ap (own_make s.places) at ∙ cond-true (is_make (kind_at s.places h)) (Some h) None makes
 
   session_no_make : is_make (kind_at s.places 0) ≡ false

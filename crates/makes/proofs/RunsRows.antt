@@ -1,24 +1,25 @@
 -- Over a run, the rows of prerequisites are those that the calls tell.
-use Rattle.std.proofs.Common.{◌≡◌, ℕ, zero, suc, ◌+◌, ◌-◌, ◌*◌, ◌<◌, ◌≤◌, true, ◌&&◌, ◌||◌, eqb, leb, ◌⊎◌, List, [], ◌∷◌, ◌++◌, map, length, get_or, Some, sym, refl, ap, ◌∙◌, subst, inl, inr, ⊎_elim, arith}
-use Rattle.std.proofs.lemmas.List.{length-map}
-use Rattle.std.proofs.lemmas.Bool.{false≢true, eqb-true, eq-eqb, leb-true, and_parts, or_cases, or_left, or_right, cases_order}
+use Rattle.std.proofs.Common.{◌≡◌, ℕ, zero, suc, ◌+◌, ◌-◌, ◌*◌, ◌<◌, ◌≤◌, true, ◌||◌, eqb, ◌⊎◌, List, [], ◌∷◌, ◌++◌, map, length, get_or, Some, sym, refl, ap, ◌∙◌, subst, inl, inr, ⊎_elim, arith}
+use Rattle.std.proofs.lemmas.Option.{same_Some}
+use Rattle.std.proofs.lemmas.List.{length-map, length_push}
+use Rattle.std.proofs.lemmas.Bool.{false≢true, eqb-true, eq-eqb, or_cases, or_left, or_right, cases_order}
 use Rattle.std.specs.List.{AllByRecursion}
 use Rattle.order.specs.Events.{birth, make, target, death, post, await}
 use Rattle.order.specs.Runs.{Call, tell, stamp}
 use Rattle.makes.specs.declared.places.Place.{Place}
 use Rattle.makes.specs.Machine.{Build, born_at, with_step, turned_make, declared, died, counted, slots_from, target_at, rows_of}
 use Rattle.makes.specs.Places.{make as a_make, target as a_target, step, make_sort, is_make, targets_of, kind_at, Shape, shape, shapes, shape_at, stand, birth_at, all_declared, row_in}
-use Rattle.makes.specs.Rows.{needs}
+use Rattle.makes.specs.Rows.{needs, joined_row}
 use Rattle.makes.specs.Runs.{make_in, target_in, Names, named_now, named_before, Prerequisite, directly, through}
 use Rattle.makes.specs.Sound.{Sound, TargetOf}
 use Rattle.makes.specs.Entries.{more_shapes}
 use Rattle.makes.specs.Found.{Found}
 use Rattle.makes.specs.Joins.{reaches, needs_old, needs_new}
 use Rattle.makes.specs.Later.{Later}
+use Rattle.makes.proofs.Asked.{declared_at}
 use Rattle.makes.proofs.RunsFollows.{declarer}
 use Rattle.makes.proofs.RunsPlaces.{Follows, more_size, new_shape, size, housed, target_told, new_step, new_make, new_target, step_shapes, make_shapes, target_shapes, death_shapes}
 use Rattle.makes.specs.Shapes.{shape_is, count_is, is_make_sort}
-use Rattle.makes.specs.Times.{some_some}
 
 -- x is the place of a target
 pub record TargetPlace (s : Build) (x : ℕ) : Type 0 where
@@ -46,10 +47,10 @@ still_needed (through n rest) = through (named_before n) (still_needed rest)
 
 -- the rows of targets
 module _ (s : Build) (sound : Sound s) where
-  few : s.targets ≤ 512
+  few : length s.rows ≤ 512
   few = let a = sound.room.targets in let b = sound.room.most_targets in omega arith
 
-  row_under : (x : ℕ) → TargetPlace s x → row_at s x < s.targets
+  row_under : (x : ℕ) → TargetPlace s x → row_at s x < length s.rows
   row_under x t = let z = length-map s.places shape in let w = t.within in sound.slots.row x (omega arith) t.sort
 
   row_few : (x : ℕ) → TargetPlace s x → row_at s x < 512
@@ -136,10 +137,10 @@ module _ (s t : Build) (y : Place) (e : shapes t.places ≡ shapes s.places ++ s
       ⊎_elim (λ w. w) (λ new. absurd (other (sym (ap (λ (z : Shape). z.sort) (ap (shape_at (shapes t.places)) new ∙ new_shape s t y e)) ∙ h.sort))) (old_or_new x h)
 
 make_no_target : a_make ≡ a_target → ⊥
-make_no_target e = let z : ◌≡◌ {A = ℕ} 0 1 = cc in omega arith
+make_no_target e = cc
 
 step_no_target : step ≡ a_target → ⊥
-step_no_target e = let z : ◌≡◌ {A = ℕ} 0 1 = cc in omega arith
+step_no_target e = cc
 
 module _ {calls : List Call} (s : Build) (rowed : Rowed calls s) where
   pub born_rowed : (p q t h : ℕ) → Later s (born_at s p s.places (stand s.places h)) → Rowed (tell (birth p q t) ∷ calls) (born_at s p s.places (stand s.places h))
@@ -164,17 +165,8 @@ module _ {calls : List Call} (s : Build) (rowed : Rowed calls s) where
   pub stamp_rowed : (p : ℕ) → Later s (counted s) → Rowed (stamp p ∷ calls) (counted s)
   stamp_rowed p later = undeclared (stamp p) s (counted s) rowed later refl (λ x w. w.within) tt
 
--- a list of declared numbers, number by number
-declared_at : (n : ℕ) (ks : List ℕ) → all_declared n ks ≡ true → (j : ℕ) → j < length ks → (1 ≤ get_or ks j 0) × (get_or ks j 0 ≤ n)
-declared_at n [] e j low = absurd (omega arith)
-declared_at n (k ∷ ks) e zero low =
-    let p = and_parts (leb 1 k && leb k n) _ e in
-    let q = and_parts (leb 1 k) _ p.0 in
-    (leb-true _ _ q.0, leb-true _ _ q.1)
-declared_at n (k ∷ ks) e (suc j) low = declared_at n ks (and_parts (leb 1 k && leb k n) _ e).1 j (omega arith)
-
 -- what a new row reaches, through one of the prerequisites
-module _ (rows : List ℕ) (g : ℕ → ℕ) (v : ℕ) where
+module _ (rows : List (List ℕ)) (g : ℕ → ℕ) (v : ℕ) where
   reached_by : (ks : List ℕ) → reaches rows (map g ks) v ≡ true → (j : ℕ) × (j < length ks) × ((needs rows (g (get_or ks j 0)) v ≡ true) ⊎ (g (get_or ks j 0) ≡ v))
   reached_by [] e = absurd (false≢true e)
   reached_by (k ∷ ks) e =
@@ -193,8 +185,8 @@ all_rows g n [] h = tt
 all_rows g n (k ∷ ks) h = (h 0 (omega arith), all_rows g n ks (λ j low. h (suc j) (omega arith)))
 
 -- A new target of the make h.
-module _ {calls : List Call} (s : Build) (f : Follows calls s) (sound : Sound s) (rowed : Rowed calls s) (p i h : ℕ) (ks : List ℕ) (own : Found s.births p i) (at : (birth_at s.births i).home ≡ h)
-    (makes : is_make (kind_at s.places h) ≡ true) (all : all_declared (targets_of (kind_at s.places h)) ks ≡ true) (room : s.targets < s.room.targets)
+module _ {calls : List Call} (s : Build) (f : Follows calls s) (sound : Sound s) (rowed : Rowed calls s) (p i h : ℕ) (ks : List ℕ) (own : Found s.births p i) (at : (birth_at s.births i).at ≡ h)
+    (makes : is_make (kind_at s.places h) ≡ true) (all : all_declared (targets_of (kind_at s.places h)) ks ≡ true) (room : length s.rows < s.room.targets)
     (later : Later s (declared s h ks)) (sound-on : Sound (declared s h ks)) where
   abbrev after : Build
   after = declared s h ks
@@ -237,21 +229,21 @@ module _ {calls : List Call} (s : Build) (f : Follows calls s) (sound : Sound s)
   rows_few : AllByRecursion (λ u. u < 512) (rows_of s h ks)
   rows_few = all_rows row_named 512 ks (λ j low. let a = row_few s sound _ (target_named j low) in let e = row_is_named j low in omega arith)
 
-  row_fresh : row_at after fresh ≡ s.targets
+  row_fresh : row_at after fresh ≡ length s.rows
   row_fresh = ap (λ (y : Shape). y.row) (new_shape s after (new_target s h) (target_shapes s h ks))
 
-  needs_fresh : (v : ℕ) → v < 512 → needs after.rows s.targets v ≡ reaches s.rows (rows_of s h ks) v
-  needs_fresh v small = needs_new s.rows (rows_of s h ks) s.targets sound.rows.whole v rows_few small
+  needs_fresh : (v : ℕ) → v < 512 → needs after.rows (length s.rows) v ≡ reaches s.rows (rows_of s h ks) v
+  needs_fresh v small = needs_new s.rows (rows_of s h ks) v rows_few small
 
   needs_before : (x y : ℕ) → TargetPlace s x → TargetPlace s y → needs after.rows (row_at after x) (row_at after y) ≡ needs s.rows (row_at s x) (row_at s y)
   needs_before x y hx hy =
       (λ j. needs after.rows (row_later s after later x hx.within j) (row_later s after later y hy.within j))
-      ∙ needs_old s.rows (rows_of s h ks) s.targets sound.rows.whole (row_at s x) (row_at s y) (row_under s sound x hx) (row_few s sound y hy)
+      ∙ needs_old s.rows (rows_of s h ks) (row_at s x) (row_at s y) (row_under s sound x hx)
 
   target_cases : (x : ℕ) → TargetPlace after x → TargetPlace s x ⊎ (x ≡ fresh)
   target_cases x hx = ⊎_elim (λ w. inl (target_before s after later x w hx)) inr (old_or_new s after (new_target s h) (target_shapes s h ks) x hx)
 
-  row_old : (x : ℕ) → TargetPlace s x → row_at after x < s.targets
+  row_old : (x : ℕ) → TargetPlace s x → row_at after x < length s.rows
   row_old x hx = let a = row_under s sound x hx in let e = row_later s after later x hx.within in omega arith
 
   fresh_apart : (x y : ℕ) → TargetPlace s x → y ≡ fresh → row_at after x ≡ row_at after y → ⊥
@@ -288,7 +280,7 @@ module _ {calls : List Call} (s : Build) (f : Follows calls s) (sound : Sound s)
 
   named_on : (x y : ℕ) → Names x y (tell (target p ks) ∷ calls) → Needing after x y
   named_on x y (named_now {j = j} e low xe ye) =
-      let m-is = some_some (sym e ∙ maker) in
+      let m-is = same_Some _ _ (sym e ∙ maker) in
       let yes = ye ∙ ap (λ m. target_in calls m (get_or ks j 0)) m-is ∙ sym (place_named j low) in
       subst (λ z. Needing after z y) (sym (xe ∙ size f sound)) (subst (Needing after fresh) (sym yes) (needing_named j low))
   named_on x y (named_before n) =
@@ -315,6 +307,7 @@ module _ {calls : List Call} (s : Build) (f : Follows calls s) (sound : Sound s)
   told_on : (x y : ℕ) → Needing after x y → Prerequisite (tell (target p ks) ∷ calls) y x
   told_on x y n =
       let few_on = few after sound-on in
+      let long = length_push s.rows (joined_row s.rows (rows_of s h ks)) in
       let rx = row_under after sound-on x n.first in
       let ry = row_under after sound-on y n.second in
       let lower = sound-on.rows.lower (row_at after x) (row_at after y) rx (omega arith) n.needed in

@@ -1,8 +1,8 @@
 -- Over a run, the starts and ends in the state are those that the calls tell.
 use Rattle.std.proofs.Common.{◌≡◌, ℕ, zero, suc, ◌+◌, ◌<◌, true, false, eqb, ◌⊎◌, List, [], ◌∷◌, ◌++◌, length, get_or, set, is_some, Some, None, Option, sym, refl, ap, ◌∙◌, subst, inl, inr, ⊎_elim, add-one, arith}
+use Rattle.std.proofs.lemmas.Option.{none-some, same_Some}
 use Rattle.std.proofs.lemmas.List.{length-map, length-set, map_push, map-set, get_or_push, get_or_past, get_or_append_left, get_or-set_same, get_or-set_other}
 use Rattle.std.proofs.lemmas.Bool.{false≢true, eqb-true, eqb-false, eq-eqb, ne_eqb, cases_eq, cases_lt, cases_order}
-use Rattle.order.proofs.Absent.{none≢some}
 use Rattle.order.specs.Events.{birth, make, target, death, post, await}
 use Rattle.order.specs.Runs.{Call, tell, stamp}
 use Rattle.makes.specs.declared.places.Kind.{Kind}
@@ -20,7 +20,6 @@ use Rattle.makes.proofs.RunsPeopled.{peopled_to, peopled_from, peopled_within}
 use Rattle.makes.proofs.RunsPlaces.{Follows, more_size, new_shape, size, parent_make, parent_within, new_step, new_make, new_target, step_shapes}
 use Rattle.makes.specs.Shapes.{shape_is, changed_same, is_make_sort}
 use Rattle.makes.specs.Sorts.{begun_end, begun_start, begun_some, declared_start, declared_end, less_start}
-use Rattle.makes.specs.Times.{some_some}
 use Rattle.makes.specs.Views.{start_is, end_is}
 use Rattle.makes.specs.Walks.{map_set_same}
 
@@ -41,11 +40,11 @@ none_more (y ∷ ys) zero = refl
 none_more (y ∷ ys) (suc x) = none_more ys x
 
 step_no_make : step ≡ a_make → ⊥
-step_no_make e = let z : ◌≡◌ {A = ℕ} 0 1 = cc in omega arith
+step_no_make e = cc
 
 -- what is there is within the list
 some_within : (xs : List (Option ℕ)) (x n : ℕ) → get_or xs x None ≡ Some n → x < length xs
-some_within xs x n e = ⊎_elim (λ h. h) (λ past. absurd (none≢some (sym (get_or_past xs x None past) ∙ e))) (cases_lt x (length xs))
+some_within xs x n e = ⊎_elim (λ h. h) (λ past. absurd (none-some _ (sym (get_or_past xs x None past) ∙ e))) (cases_lt x (length xs))
 
 pub is_there : (o : Option ℕ) → is_some o ≡ true → (n : ℕ) × (o ≡ Some n)
 is_there None e = absurd (false≢true e)
@@ -57,9 +56,9 @@ not_there (Some n) e = absurd (false≢true (sym e))
 
 -- what ends is a make or a step
 ended_lasts : (k : Kind) (n : ℕ) → end_of k ≡ Some n → lasting (sort_of k) ≡ true
-ended_lasts Session n e = absurd (none≢some e)
-ended_lasts (Make status ordinal targets) n e = refl
-ended_lasts (Target row) n e = absurd (none≢some e)
+ended_lasts Session n e = absurd (none-some _ e)
+ended_lasts (Make m) n e = refl
+ended_lasts (Target row) n e = absurd (none-some _ e)
 ended_lasts (Step start end) n e = refl
 
 pub ends_last : (ps : List Place) (x n : ℕ) → get_or (ends ps) x None ≡ Some n → lasting (shape_at (shapes ps) x).sort ≡ true
@@ -160,7 +159,7 @@ module _ {calls : List Call} (s : Build) (f : Follows calls s) (sound : Sound s)
   number_is = add-one s.number ∙ ap suc f.counted
 
   same_starts : starts (died s i).places ≡ starts s.places
-  same_starts = changed_same (λ (y : Place). start_of y.kind) (one_less (s.number + 1)) (less_start (s.number + 1)) s.places (line (parents s.places) (birth_at s.births i).home)
+  same_starts = changed_same (λ (y : Place). start_of y.kind) (one_less (s.number + 1)) (less_start (s.number + 1)) s.places (line (parents s.places) (birth_at s.births i).at)
 
   same_size : length (died s i).places ≡ length s.places
   same_size = sym (size on sound-on) ∙ size f sound
@@ -205,7 +204,7 @@ module _ {calls : List Call} (s : Build) (f : Follows calls s) (sound : Sound s)
           (λ same. ended_before (timed.ends_to x n (sym same ∙ e)))
           (λ new.
           let both = last_of x (s.number + 1) w new.0 new.1 in
-          subst (Ended x (tell (death p) ∷ calls)) (sym number_is ∙ some_some (sym new.1 ∙ e)) (last_death both.0 both.1))
+          subst (Ended x (tell (death p) ∷ calls)) (sym number_is ∙ same_Some _ _ (sym new.1 ∙ e)) (last_death both.0 both.1))
           (later.ends x w)
 
       within_on : (x n : ℕ) → Ended x (tell (death p) ∷ calls) n → x < length (died s i).places
@@ -216,7 +215,7 @@ module _ {calls : List Call} (s : Build) (f : Follows calls s) (sound : Sound s)
       ends_from_on x n l (ended_before e) =
           let w = timed.ends_within x n e in
           let was = timed.ends_from x n (sym (ap (λ (y : Shape). lasting y.sort) (later.shape x w)) ∙ l) e in
-          ⊎_elim (λ same. same ∙ was) (λ new. absurd (none≢some (sym new.0 ∙ was))) (later.ends x w)
+          ⊎_elim (λ same. same ∙ was) (λ new. absurd (none-some _ (sym new.0 ∙ was))) (later.ends x w)
       ends_from_on x n l (last_death some gone) =
           let w = peopled_within f sound x some in
           let n' = same_size in
@@ -306,7 +305,7 @@ module _ {calls : List Call} (s : Build) (f : Follows calls s) (sound : Sound s)
   ended_step x n e = ended_birth e
 
   begun_on : (m : ℕ) → Begun m (tell (birth p q t) ∷ calls) → is_some (get_or (starts stepped.places) m None) ≡ true
-  begun_on m (begun_now ne e) = ap (λ x. is_some (get_or (starts stepped.places) x None)) (some_some (sym e ∙ h_is)) ∙ ap is_some start_make ∙ h_started
+  begun_on m (begun_now ne e) = ap (λ x. is_some (get_or (starts stepped.places) x None)) (same_Some _ _ (sym e ∙ h_is)) ∙ ap is_some start_make ∙ h_started
   begun_on m (begun_before b) =
       let was = is_there _ (timed.begun m b) in
       ap is_some (later.starts m was.0 (start_within s m was.0 was.1) was.1)
@@ -326,12 +325,12 @@ module _ {calls : List Call} (s : Build) (f : Follows calls s) (sound : Sound s)
   starts_on : (x n : ℕ) → get_or (starts stepped.places) x None ≡ Some n → Starts x (tell (birth p q t) ∷ calls) n
   starts_on x n e =
       by_place (λ y. get_or (starts stepped.places) y None ≡ Some n → Starts y (tell (birth p q t) ∷ calls) n)
-      (λ new. subst (Starts (length s.places) (tell (birth p q t) ∷ calls)) (sym step_number ∙ some_some (sym start_new ∙ new)) (step_born target_named (sym (size f sound))))
+      (λ new. subst (Starts (length s.places) (tell (birth p q t) ∷ calls)) (sym step_number ∙ same_Some _ _ (sym start_new ∙ new)) (step_born target_named (sym (size f sound))))
       (λ at.
       ⊎_elim
       (λ same. started_before (timed.starts_to h n (same ∙ sym start_make ∙ at)))
       (λ now.
-      subst (Starts h (tell (birth p q t) ∷ calls)) (sym step_number ∙ some_some (sym (start_make ∙ now.1) ∙ at))
+      subst (Starts h (tell (birth p q t) ∷ calls)) (sym step_number ∙ same_Some _ _ (sym (start_make ∙ now.1) ∙ at))
       (first_step target_named h_is (λ b. false≢true (sym (ap is_some now.0) ∙ timed.begun h b))))
       h_starts)
       (λ y w ne at. started_before (timed.starts_to y n (sym (start_other y w ne) ∙ at)))
@@ -340,7 +339,7 @@ module _ {calls : List Call} (s : Build) (f : Follows calls s) (sound : Sound s)
   starts_back : (x n : ℕ) → Starts x (tell (birth p q t) ∷ calls) n → get_or (starts stepped.places) x None ≡ Some n
   starts_back x n (step_born ne at) = ap (λ y. get_or (starts stepped.places) y None) (at ∙ size f sound) ∙ start_new ∙ ap Some step_number
   starts_back x n (first_step ne e first) =
-      let x-is = some_some (sym e ∙ h_is) in
+      let x-is = same_Some _ _ (sym e ∙ h_is) in
       ap (λ y. get_or (starts stepped.places) y None) x-is ∙ start_make
       ∙ ⊎_elim
       (λ same. let k = is_there start_on h_started in absurd (first (subst (λ y. Begun y calls) (sym x-is) (timed.begun_to h k.0 h_sort (same ∙ k.1)))))

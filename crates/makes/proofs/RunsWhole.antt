@@ -1,10 +1,10 @@
 -- Over a run, the whole state is what the calls tell.
 use Rattle.std.proofs.Common.{◌≡◌, ℕ, zero, suc, ◌+◌, ◌≤◌, eqb, List, [], ◌∷◌, get_or, IfOk, Some, None, Option, sym, refl, subst, arith, MatchOption}
+use Rattle.std.proofs.lemmas.Option.{none-some}
 use Rattle.std.proofs.lemmas.Result.{IfOk-at_ok}
 use Rattle.std.proofs.lemmas.Bool.{eqb-false}
 use Rattle.std.specs.Option.{option_map}
 use Rattle.faults.specs.declared.OrderFault.TheVariants.{UsedUp}
-use Rattle.order.proofs.Absent.{none≢some}
 use Rattle.order.proofs.Checks.{passing}
 use Rattle.order.specs.declared.Timestamp.{Timestamp}
 use Rattle.order.specs.Events.{Told}
@@ -36,16 +36,16 @@ pub record Whole (calls : List Call) (s : Build) : Type 0 where
 
 -- A new order.
 alone : (x n : ℕ) → get_or (None ∷ []) x None ≡ Some n → ⊥
-alone zero n e = none≢some e
-alone (suc x) n e = none≢some e
+alone zero n e = none-some _ e
+alone (suc x) n e = none-some _ e
 
 nothing_declared : (x : ℕ) → ◌≡◌ {A = ℕ} (get_or (0 ∷ []) x 0) 0
 nothing_declared zero = refl
 nothing_declared (suc x) = refl
 
 session_only : (x : ℕ) → (get_or (shape no_place ∷ []) x (shape no_place)).sort ≡ a_target → ⊥
-session_only zero e = let z : ◌≡◌ {A = ℕ} 0 1 = cc in omega arith
-session_only (suc x) e = let z : ◌≡◌ {A = ℕ} 0 1 = cc in omega arith
+session_only zero e = cc
+session_only (suc x) e = cc
 
 start_whole : (room : Room) → Whole [] (start room)
 start_whole room = record {
@@ -116,11 +116,11 @@ pub record Stamped (s : Build) (p : ℕ) (r : Timestamp × Build) : Type 0 where
   pub number : r.0.number ≡ s.number + 1
   pub who : ℕ
   pub lives : Found s.births p who
-  pub place : r.0.place ≡ stand s.places (birth_at s.births who).home
+  pub place : r.0.place ≡ stand s.places (birth_at s.births who).at
   pub left : r.1 ≡ counted s
   pub more : s.number + 1 ≤ last_number
 
-pub stamped : (s : Build) → Sound s → (p : ℕ) (o : Option ℕ) → MatchOption o (Nobody s.births p) (λ i. Found s.births p i) → IfOk (stamp_from s (option_map (λ i. (birth_at s.births i).home) o)) (Stamped s p)
+pub stamped : (s : Build) → Sound s → (p : ℕ) (o : Option ℕ) → MatchOption o (Nobody s.births p) (λ i. Found s.births p i) → IfOk (stamp_from s (option_map (λ i. (birth_at s.births i).at) o)) (Stamped s p)
 stamped s sound p None h = tt
 stamped s sound p (Some i) h =
     passing (Stamped s p) ((eqb s.number last_number, UsedUp) ∷ []) _ (λ passed.

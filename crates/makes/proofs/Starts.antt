@@ -1,9 +1,7 @@
 -- A new make order has what reachable states keep.
-use Rattle.std.proofs.Common.{◌≡◌, ℕ, zero, suc, ◌+◌, ◌*◌, ◌<◌, ◌≤◌, true, List, [], ◌∷◌, length, get_or, replicate, Some, None, refl, ap, ◌∙◌, arith}
+use Rattle.std.proofs.Common.{◌≡◌, ℕ, zero, suc, ◌+◌, ◌*◌, ◌<◌, ◌≤◌, true, List, [], ◌∷◌, length, get_or, Some, None, refl, arith}
 use Rattle.std.proofs.lemmas.List.{length-replicate}
 use Rattle.std.proofs.lemmas.Bool.{false≢true}
-use Rattle.makes.specs.declared.births.Birth.{Birth}
-use Rattle.makes.specs.declared.places.Place.{Place}
 use Rattle.makes.specs.declared.room.Room.{Room}
 use Rattle.makes.specs.Machine.{capped, start_in, start}
 use Rattle.makes.specs.Places.{Sort, session, make, target, step, no_place, Shape, shape, shape_at, parents_of}
@@ -24,13 +22,13 @@ session_other : (s : Sort) → (session ≡ s → ⊥) → (x : ℕ) → x < len
 session_other s other = only_root (λ x. (shape_at alone x).sort ≡ s → ⊥) other
 
 no_make : session ≡ make → ⊥
-no_make e = let z : ◌≡◌ {A = ℕ} 0 1 = cc in omega arith
+no_make e = cc
 
 no_target : session ≡ target → ⊥
-no_target e = let z : ◌≡◌ {A = ℕ} 0 1 = cc in omega arith
+no_target e = cc
 
 no_step : session ≡ step → ⊥
-no_step e = let z : ◌≡◌ {A = ℕ} 0 1 = cc in omega arith
+no_step e = cc
 
 above_alone : Earlier (parents_of alone)
 above_alone zero h = absurd (omega arith)
@@ -49,8 +47,8 @@ alone_sound = record {
 
 -- nothing has started or ended
 never : (x k : ℕ) → get_or (None ∷ []) x None ≡ Some k → ⊥
-never zero k e = let z : ◌≡◌ {A = ℕ} 0 1 = cc in omega arith
-never (suc x) k e = let z : ◌≡◌ {A = ℕ} 0 1 = cc in omega arith
+never zero k e = cc
+never (suc x) k e = cc
 
 none_declared : (x : ℕ) → get_or (0 ∷ []) x 0 ≤ 0
 none_declared zero = omega arith
@@ -67,7 +65,7 @@ start_sound room births makes targets = record {
     over = λ x h e. absurd (only_root (λ y. lasting (shape_at alone y).sort ≡ true → ⊥) false≢true x h e);
   };
   births = record { housed = λ i h. absurd (omega arith); homely = λ i h. absurd (omega arith); only = λ i j h k. absurd (omega arith); live = only_root _ refl };
-  rows = record { whole = refl; lower = λ t u h. absurd (omega arith); chained = λ t u v h. absurd (omega arith) };
+  rows = record { whole = λ t h. absurd (omega arith); lower = λ t u h. absurd (omega arith); chained = λ t u v h. absurd (omega arith) };
   slots = record {
     row = λ x h e. absurd (session_other target no_target x h e);
     ordinal = λ x h e. absurd (session_other make no_make x h e);
@@ -86,12 +84,6 @@ start_sound room births makes targets = record {
     places = omega arith;
   };
 }
-
--- the state with these tables
-pub start_is : (room capped-room : Room) {bs : List Birth} {ps : List Place} {slots rows : List ℕ} → capped-room ≡ capped room → bs ≡ [] → ps ≡ no_place ∷ []
-    → slots ≡ replicate (capped-room.makes * capped-room.targets) 0 → rows ≡ []
-    → record { number = 0; room = capped-room; births = bs; places = ps; makes = 0; targets = 0; slots = slots; rows = rows } ≡ start room
-start_is room capped-room r b p s w = λ i. record { number = 0; room = r i; births = b i; places = p i; makes = 0; targets = 0; slots = (s ∙ ap (λ (q : Room). replicate (q.makes * q.targets) 0) r) i; rows = w i }
 
 pub new_sound : (room : Room) → Sound (start room)
 new_sound room = start_sound (capped room) (omega arith) (omega arith) (omega arith)

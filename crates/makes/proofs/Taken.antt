@@ -33,8 +33,8 @@ module _ (s : Build) (sound : Sound s) where
   stepped_kept p q t h at ps some =
       subst Sound (ap (λ b. cond b (born_at s p s.places (stand s.places h)) (born_at s p (with_step s h t) (length s.places))) (ne_eqb t 0 (λ e. omega arith))) (birth_kept p q t h at ps)
 
-  pub make_kept : (p i : ℕ) → found s p ≡ Some i → Passed (make_checks s (birth_at s.births i).home) → Sound (turned_make s i)
-  make_kept p i at ps = kept_by (make p) (turned_make s i) (ap (make_from s) at ∙ all_passed (make_checks s (birth_at s.births i).home) (Ok (turned_make s i)) ps)
+  pub make_kept : (p i : ℕ) → found s p ≡ Some i → Passed (make_checks s (birth_at s.births i).at) → Sound (turned_make s i)
+  make_kept p i at ps = kept_by (make p) (turned_make s i) (ap (make_from s) at ∙ all_passed (make_checks s (birth_at s.births i).at) (Ok (turned_make s i)) ps)
 
   pub target_kept : (p : ℕ) (ks : List ℕ) (h : ℕ) → home_of s p ≡ Some h → Passed (target_checks s h ks) → Sound (declared s h ks)
   target_kept p ks h at ps = kept_by (target p ks) (declared s h ks) (ap (target_from s ks) at ∙ all_passed (target_checks s h ks) (Ok (declared s h ks)) ps)

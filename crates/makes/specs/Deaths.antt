@@ -66,34 +66,34 @@ module _ (s : Build) (sound : Sound s) (more : s.number + 1 ≤ last_number) (i 
   size : length (shapes s.places) ≡ length s.places
   size = length-map s.places shape
 
-  home_within : (birth_at s.births i).home < length s.places
+  home_within : (birth_at s.births i).at < length s.places
   home_within = let a = sound.births.housed i in_table in let b = size in omega arith
 
   same_shapes : shapes (died s i).places ≡ shapes s.places
-  same_shapes = changed_same shape (one_less (s.number + 1)) (less_shape (s.number + 1)) s.places (line (parents s.places) (birth_at s.births i).home)
+  same_shapes = changed_same shape (one_less (s.number + 1)) (less_shape (s.number + 1)) s.places (line (parents s.places) (birth_at s.births i).at)
 
   same_counts : counts (died s i).places ≡ counts s.places
-  same_counts = changed_same (λ (p : Place). targets_of p.kind) (one_less (s.number + 1)) (less_targets (s.number + 1)) s.places (line (parents s.places) (birth_at s.births i).home)
+  same_counts = changed_same (λ (p : Place). targets_of p.kind) (one_less (s.number + 1)) (less_targets (s.number + 1)) s.places (line (parents s.places) (birth_at s.births i).at)
 
   same_starts : starts (died s i).places ≡ starts s.places
-  same_starts = changed_same (λ (p : Place). start_of p.kind) (one_less (s.number + 1)) (less_start (s.number + 1)) s.places (line (parents s.places) (birth_at s.births i).home)
+  same_starts = changed_same (λ (p : Place). start_of p.kind) (one_less (s.number + 1)) (less_start (s.number + 1)) s.places (line (parents s.places) (birth_at s.births i).at)
 
-  at : (x : ℕ) → place_at (died s i).places x ≡ cond (holds (parents s.places) x (birth_at s.births i).home) (one_less (s.number + 1) (place_at s.places x)) (place_at s.places x)
-  at x = walked_at (parents s.places) sound.tree.earlier (one_less (s.number + 1)) x (birth_at s.births i).home s.places home_within
+  at : (x : ℕ) → place_at (died s i).places x ≡ cond (holds (parents s.places) x (birth_at s.births i).at) (one_less (s.number + 1) (place_at s.places x)) (place_at s.places x)
+  at x = walked_at (parents s.places) sound.tree.earlier (one_less (s.number + 1)) x (birth_at s.births i).at s.places home_within
 
-  lives_at : (x : ℕ) → slice_index (lives (died s i).places) x ≡ cond (holds (parents s.places) x (birth_at s.births i).home) (slice_index (lives s.places) x - 1) (slice_index (lives s.places) x)
+  lives_at : (x : ℕ) → slice_index (lives (died s i).places) x ≡ cond (holds (parents s.places) x (birth_at s.births i).at) (slice_index (lives s.places) x - 1) (slice_index (lives s.places) x)
   lives_at x =
-      live_is (died s i).places x ∙ ap (λ (p : Place). p.live) (at x) ∙ live_less (holds (parents s.places) x (birth_at s.births i).home) (s.number + 1) (place_at s.places x)
-      ∙ ap (λ l. cond (holds (parents s.places) x (birth_at s.births i).home) (l - 1) l) (sym (live_is s.places x))
+      live_is (died s i).places x ∙ ap (λ (p : Place). p.live) (at x) ∙ live_less (holds (parents s.places) x (birth_at s.births i).at) (s.number + 1) (place_at s.places x)
+      ∙ ap (λ l. cond (holds (parents s.places) x (birth_at s.births i).at) (l - 1) l) (sym (live_is s.places x))
 
   pub died_ends : (x : ℕ) → (slice_index_or (ends (died s i).places) x None ≡ slice_index_or (ends s.places) x None) ⊎ ((slice_index_or (ends s.places) x None ≡ None) × (slice_index_or (ends (died s i).places) x None ≡ Some (s.number + 1)))
   died_ends x =
       let here = end_is (died s i).places x ∙ ap (λ (p : Place). end_of p.kind) (at x) in
       let was = end_is s.places x in
-      ⊎_elim (λ e. inl (here ∙ e ∙ sym was)) (λ e. inr (was ∙ e.0, here ∙ e.1)) (end_less (holds (parents s.places) x (birth_at s.births i).home) (s.number + 1) (place_at s.places x))
+      ⊎_elim (λ e. inl (here ∙ e ∙ sym was)) (λ e. inr (was ∙ e.0, here ∙ e.1)) (end_less (holds (parents s.places) x (birth_at s.births i).at) (s.number + 1) (place_at s.places x))
 
   -- who is counted where the dead one was
-  some_there : (x : ℕ) → x < length (shapes s.places) → holds (parents s.places) x (birth_at s.births i).home ≡ true → 0 < (place_at s.places x).live
+  some_there : (x : ℕ) → x < length (shapes s.places) → holds (parents s.places) x (birth_at s.births i).at ≡ true → 0 < (place_at s.places x).live
   some_there x h held =
       let c = lodger_counts (parents s.places) s.births x i in_table alive held in
       let l = sound.births.live x h in
@@ -105,7 +105,7 @@ module _ (s : Build) (sound : Sound s) (more : s.number + 1 ≤ last_number) (i 
       let was : is_some (end_of (kind_at s.places x)) ≡ nat_eq (place_at s.places x).live 0 =
       ap is_some (sym (end_is s.places x)) ∙ sound.times.over x h lasts ∙ ap (λ l. nat_eq l 0) (live_is s.places x) in
       ap is_some (end_is (died s i).places x ∙ ap (λ (p : Place). end_of p.kind) (at x))
-      ∙ over_less (holds (parents s.places) x (birth_at s.births i).home) (s.number + 1) (place_at s.places x) (sym (ap lasting (sort_is s sound x)) ∙ lasts) was (some_there x h)
+      ∙ over_less (holds (parents s.places) x (birth_at s.births i).at) (s.number + 1) (place_at s.places x) (sym (ap lasting (sort_is s sound x)) ∙ lasts) was (some_there x h)
       ∙ ap (λ l. nat_eq l 0) (sym (live_is (died s i).places x ∙ ap (λ (p : Place). p.live) (at x)))
 
   pub died_sound : Sound (died s i)
@@ -121,11 +121,11 @@ module _ (s : Build) (sound : Sound s) (more : s.number + 1 ≤ last_number) (i 
         (births_dead (shapes s.places) s.births (lives s.places) (lives (died s i).places) sound.births i in_table alive (λ y h. lives_at y));
     rows = sound.rows;
     slots =
-        subst (λ ts. SoundSlots ts (counts (died s i).places) s.makes s.targets s.room.targets s.slots) (sym same_shapes)
-        (subst (λ cs. SoundSlots (shapes s.places) cs s.makes s.targets s.room.targets s.slots) (sym same_counts) sound.slots);
+        subst (λ ts. SoundSlots ts (counts (died s i).places) s.makes (length s.rows) s.room.targets s.slots) (sym same_shapes)
+        (subst (λ cs. SoundSlots (shapes s.places) cs s.makes (length s.rows) s.room.targets s.slots) (sym same_counts) sound.slots);
     room =
-        let lb = length-set s.births i (record { process = (birth_at s.births i).process; home = (birth_at s.births i).home; live = false }) in
-        let lp = length_changed (one_less (s.number + 1)) s.places (line (parents s.places) (birth_at s.births i).home) in
+        let lb = length-set s.births i (record { process = (birth_at s.births i).process; at = (birth_at s.births i).at; live = false }) in
+        let lp = length_changed (one_less (s.number + 1)) s.places (line (parents s.places) (birth_at s.births i).at) in
         let rb = sound.room.births in
         let rp = sound.room.places in
         record {
@@ -143,7 +143,7 @@ module _ (s : Build) (sound : Sound s) (more : s.number + 1 ≤ last_number) (i 
   pub died_later : Later s (died s i)
   died_later = record {
     number = refl;
-    longer = let lp = length_changed (one_less (s.number + 1)) s.places (line (parents s.places) (birth_at s.births i).home) in omega arith;
+    longer = let lp = length_changed (one_less (s.number + 1)) s.places (line (parents s.places) (birth_at s.births i).at) in omega arith;
     shape = λ x h. ap (λ ts. shape_at ts x) same_shapes;
     starts = λ x k h e. ap (λ ss. get_or ss x None) same_starts ∙ e;
     ends = λ x h. died_ends x;

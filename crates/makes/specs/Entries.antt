@@ -4,7 +4,7 @@ use Rattle.std.proofs.Common.{inl, ⊎_elim, sym, ap, subst, ◌∙◌, arith}
 use Rattle.std.proofs.lemmas.List.{length-map, length_push}
 use Rattle.std.proofs.lemmas.Bool.{false≢true, cases_Bool, or_right}
 use Rattle.order.specs.Meaning.{last_number}
-use Rattle.makes.specs.declared.births.Birth.{Birth}
+use Rattle.births.specs.declared.Birth.{Birth}
 use Rattle.makes.specs.declared.places.Place.{Place}
 use Rattle.makes.specs.Machine.{Build, born_at}
 use Rattle.makes.specs.Places.{Sort, session, make, target, step, make_sort, target_sort, stand_sort, is_make, is_stand, targets_of, start_of, end_of, one_more, place_at, kind_at, shape, shapes, shape_at, parents, counts, lives, starts, ends, stand, changed, birth_at}
@@ -25,7 +25,7 @@ live_more false p = refl
 
 -- a parent's home: the session's, or that of a live process
 abbrev pub ParentHome : Build → ℕ → Type 0
-ParentHome s h = (h ≡ 0) ⊎ ((i : ℕ) × (i < length s.births) × ((birth_at s.births i).live ≡ true) × ((birth_at s.births i).home ≡ h))
+ParentHome s h = (h ≡ 0) ⊎ ((i : ℕ) × (i < length s.births) × ((birth_at s.births i).live ≡ true) × ((birth_at s.births i).at ≡ h))
 
 -- A walk of one more from x: what is seen of the places after it.
 module _ (ps : List Place) (x : ℕ) where
@@ -147,7 +147,7 @@ module _ (s : Build) (sound : Sound s) (more : s.number + 1 ≤ last_number) (p 
       let ps = s.places in
       let x = stand s.places h in
       let after = changed one_more s.places (line (parents s.places) (stand s.places h)) in
-      let b : Birth = record { process = p; home = stand s.places h; live = true } in
+      let b : Birth ℕ = record { process = p; at = stand s.places h; live = true } in
       let within = stand_within s sound h parent in
       let n = size s sound h parent in
       let at = more_lives ps x sound.tree within in
@@ -167,8 +167,8 @@ module _ (s : Build) (sound : Sound s) (more : s.number + 1 ≤ last_number) (p 
             (births_born (shapes ps) s.births (lives ps) (lives after) sound.births p x (omega arith) (stand_no_target_at s sound h parent) nobody (λ y w. at y));
         rows = sound.rows;
         slots =
-            subst (λ ts. SoundSlots ts (counts after) s.makes s.targets s.room.targets s.slots) (sym (more_shapes ps x))
-            (subst (λ cs. SoundSlots (shapes ps) cs s.makes s.targets s.room.targets s.slots) (sym (more_counts ps x)) sound.slots);
+            subst (λ ts. SoundSlots ts (counts after) s.makes (length s.rows) s.room.targets s.slots) (sym (more_shapes ps x))
+            (subst (λ cs. SoundSlots (shapes ps) cs s.makes (length s.rows) s.room.targets s.slots) (sym (more_counts ps x)) sound.slots);
         room = record {
           births = omega arith;
           makes = sound.room.makes;

@@ -1,38 +1,33 @@
 -- Rows joined to a row, one after the other: the words, and the bits.
-use Rattle.std.specs.Prelude.{◌≡◌, ℕ, ◌+◌, ◌-◌, ◌*◌, ◌/◌, ◌%◌, ◌^◌, ◌<◌, ◌≤◌, Bool, true, false, ◌||◌, List, [], ◌∷◌, ◌++◌, map, length, take, replicate, fold, ◌==◌, slice_index, slice_set, refl}
+use Rattle.std.specs.Prelude.{◌≡◌, ℕ, ◌+◌, ◌/◌, ◌%◌, ◌^◌, ◌<◌, Bool, true, false, ◌||◌, List, [], ◌∷◌, ◌++◌, map, length, take, replicate, fold, ◌==◌, slice_index, slice_set, refl}
 use Rattle.std.proofs.Common.{⊎_elim, sym, ap, subst, ◌∙◌, arith}
+use Rattle.std.proofs.ByRecursion.{All-weaker}
 use Rattle.std.specs.Int.Bits.{bit_or}
 use Rattle.std.proofs.lemmas.List.FromFn.{get_or-map-range_with_len}
-use Rattle.std.proofs.lemmas.List.{length-set, length-append, map_more, take_all, get_or-set_same, get_or-set_other, get_or-replicate, get_or_append_left, get_or-append_right}
+use Rattle.std.proofs.lemmas.List.{length-set, length_push, map_more, get_or-set_same, get_or-set_other, get_or-replicate, get_or_append_left, get_or_push}
 use Rattle.std.proofs.lemmas.List.Sums.{fold_push}
 use Rattle.std.proofs.lemmas.Bool.{false≢true, eqb-true, eq-eqb, ne_eqb, cases_eq, cases_order, or_cases, or_left, or_right}
 use Rattle.std.specs.List.{AllByRecursion}
 use Rattle.order.proofs.Bits.{bit_none, bit-bit_or, bit_power}
 use Rattle.order.specs.Bits.{bit}
-use Rattle.makes.specs.Rows.{word, needs, with_row, with_bit, joined, joined_row}
+use Rattle.makes.specs.Rows.{words, has_bit, needs, with_row, with_bit, joined, joined_row}
 use Rattle.makes.specs.Sound.{SoundRows}
 
-pub length_joined : (rows row : List ℕ) (u : ℕ) → length (joined rows row u) ≡ 8
-length_joined rows row u = length-set (with_row rows row u) (u / 64) _
+length_joined : (rows : List (List ℕ)) (row : List ℕ) (u : ℕ) → length (joined rows row u) ≡ 8
+length_joined rows row u = length-set (with_row row (words rows u)) (u / 64) _
 
-module _ (rows : List ℕ) (f : ℕ → ℕ) (ks : List ℕ) (i : ℕ) (row : List ℕ) (so_far : row ≡ joined_row rows (map f (take i ks))) where
+module _ (rows : List (List ℕ)) (f : ℕ → ℕ) (ks : List ℕ) (i : ℕ) (row : List ℕ) (so_far : row ≡ joined_row rows (map f (take i ks))) where
   pub joined_more : (u : ℕ) → i < length ks → u ≡ f (slice_index ks i) → joined rows row u ≡ joined_row rows (map f (take (i + 1) ks))
   joined_more u within is =
       (λ j. joined rows (so_far j) (is j))
       ∙ sym (ap (joined_row rows) (map_more f ks i 0 within) ∙ fold_push (joined rows) (replicate 8 0) (map f (take i ks)) (f (slice_index ks i)))
 
-  pub joined_all : length ks ≤ i → row ≡ joined_row rows (map f ks)
-  joined_all past = so_far ∙ ap (λ xs. joined_row rows (map f xs)) (take_all i ks past)
-
 -- The bits of one row.
-abbrev row_bit : List ℕ → ℕ → Bool
-row_bit row v = bit (slice_index row (v / 64)) (v % 64)
-
-module _ (rows row : List ℕ) (u v : ℕ) (small : v < 512) where
-  bit_with_row : row_bit (with_row rows row u) v ≡ (row_bit row v || needs rows u v)
+module _ (row more : List ℕ) (v : ℕ) (small : v < 512) where
+  bit_with_row : has_bit (with_row row more) v ≡ (has_bit row v || has_bit more v)
   bit_with_row =
-      ap (λ n. bit n (v % 64)) (get_or-map-range_with_len (λ i. bit_or (slice_index row i) (word rows u i)) 0 8 (v / 64) (v / 64) 0 (omega arith) (omega arith))
-      ∙ bit-bit_or (slice_index row (v / 64)) (word rows u (v / 64)) (v % 64)
+      ap (λ n. bit n (v % 64)) (get_or-map-range_with_len (λ i. bit_or (slice_index row i) (slice_index more i)) 0 8 (v / 64) (v / 64) 0 (omega arith) (omega arith))
+      ∙ bit-bit_or (slice_index row (v / 64)) (slice_index more (v / 64)) (v % 64)
 
 same_bit : (u v : ℕ) → u / 64 ≡ v / 64 → (u % 64 == v % 64) ≡ (u == v)
 same_bit u v e =
@@ -46,7 +41,7 @@ or_none true = refl
 or_none false = refl
 
 module _ (row : List ℕ) (u v : ℕ) (whole : length row ≡ 8) (small : u < 512) where
-  bit_with_bit : row_bit (with_bit row u) v ≡ (row_bit row v || u == v)
+  bit_with_bit : has_bit (with_bit row u) v ≡ (has_bit row v || u == v)
   bit_with_bit =
       let new = bit_or (slice_index row (u / 64)) (2 ^ (u % 64)) in
       ⊎_elim
@@ -57,14 +52,14 @@ module _ (row : List ℕ) (u v : ℕ) (whole : length row ≡ 8) (small : u < 51
       ∙ (λ i. bit (slice_index row (e i)) (v % 64) || (bit_power (u % 64) (v % 64) ∙ same_bit u v e) i))
       (λ other.
       ap (λ n. bit n (v % 64)) (get_or-set_other row (u / 64) (v / 64) new 0 (λ f. other (sym f)))
-      ∙ sym (ap (λ b. row_bit row v || b) (ne_eqb u v (λ f. other (ap (λ n. n / 64) f))) ∙ or_none (row_bit row v)))
+      ∙ sym (ap (λ b. has_bit row v || b) (ne_eqb u v (λ f. other (ap (λ n. n / 64) f))) ∙ or_none (has_bit row v)))
       (cases_eq (u / 64) (v / 64))
 
-bit_joined : (rows row : List ℕ) (u v : ℕ) → u < 512 → v < 512 → row_bit (joined rows row u) v ≡ ((row_bit row v || needs rows u v) || u == v)
-bit_joined rows row u v hu hv = bit_with_bit (with_row rows row u) u v refl hu ∙ ap (λ b. b || u == v) (bit_with_row rows row u v hv)
+bit_joined : (rows : List (List ℕ)) (row : List ℕ) (u v : ℕ) → u < 512 → v < 512 → has_bit (joined rows row u) v ≡ ((has_bit row v || needs rows u v) || u == v)
+bit_joined rows row u v hu hv = bit_with_bit (with_row row (words rows u)) u v refl hu ∙ ap (λ b. b || u == v) (bit_with_row row (words rows u) v hv)
 
 -- whether one of the targets is v or needs it
-abbrev pub reaches : List ℕ → List ℕ → ℕ → Bool
+abbrev pub reaches : List (List ℕ) → List ℕ → ℕ → Bool
 reaches rows [] v = false
 reaches rows (u ∷ us) v = (needs rows u v || u == v) || reaches rows us v
 
@@ -72,39 +67,42 @@ or_regroup : (a b c d : Bool) → (((a || b) || c) || d) ≡ (a || ((b || c) || 
 or_regroup true b c d = refl
 or_regroup false b c d = refl
 
-bits_folded : (rows : List ℕ) (us row : List ℕ) (v : ℕ) → AllByRecursion (λ u. u < 512) us → v < 512 → row_bit (fold (joined rows) row us) v ≡ (row_bit row v || reaches rows us v)
-bits_folded rows [] row v small hv = sym (or_none (row_bit row v))
+bits_folded : (rows : List (List ℕ)) (us row : List ℕ) (v : ℕ) → AllByRecursion (λ u. u < 512) us → v < 512 → has_bit (fold (joined rows) row us) v ≡ (has_bit row v || reaches rows us v)
+bits_folded rows [] row v small hv = sym (or_none (has_bit row v))
 bits_folded rows (u ∷ us) row v small hv =
     bits_folded rows us (joined rows row u) v small.1 hv
     ∙ ap (λ b. b || reaches rows us v) (bit_joined rows row u v small.0 hv)
-    ∙ or_regroup (row_bit row v) (needs rows u v) (u == v) (reaches rows us v)
+    ∙ or_regroup (has_bit row v) (needs rows u v) (u == v) (reaches rows us v)
 
-length_folded : (rows us row : List ℕ) → length row ≡ 8 → length (fold (joined rows) row us) ≡ 8
+length_folded : (rows : List (List ℕ)) (us row : List ℕ) → length row ≡ 8 → length (fold (joined rows) row us) ≡ 8
 length_folded rows [] row e = e
 length_folded rows (u ∷ us) row e = length_folded rows us (joined rows row u) (length_joined rows row u)
 
-pub length_joined_row : (rows us : List ℕ) → length (joined_row rows us) ≡ 8
+length_joined_row : (rows : List (List ℕ)) (us : List ℕ) → length (joined_row rows us) ≡ 8
 length_joined_row rows us = length_folded rows us (replicate 8 0) refl
 
-bit_joined_row : (rows us : List ℕ) (v : ℕ) → AllByRecursion (λ u. u < 512) us → v < 512 → row_bit (joined_row rows us) v ≡ reaches rows us v
+bit_joined_row : (rows : List (List ℕ)) (us : List ℕ) (v : ℕ) → AllByRecursion (λ u. u < 512) us → v < 512 → has_bit (joined_row rows us) v ≡ reaches rows us v
 bit_joined_row rows us v small hv =
     bits_folded rows us (replicate 8 0) v small hv
     ∙ ap (λ n. bit n (v % 64) || reaches rows us v) (get_or-replicate 8 (v / 64) 0 0 (omega arith))
     ∙ ap (λ b. b || reaches rows us v) (bit_none (v % 64))
 
 -- The table with one row more.
-module _ (rows us : List ℕ) (targets : ℕ) (whole : length rows ≡ targets * 8) where
-  pub needs_old : (t v : ℕ) → t < targets → v < 512 → needs (rows ++ joined_row rows us) t v ≡ needs rows t v
-  needs_old t v h small = ap (λ n. bit n (v % 64)) (get_or_append_left rows (joined_row rows us) 0 (t * 8 + v / 64) (omega arith))
+module _ (rows : List (List ℕ)) (us : List ℕ) where
+  words_old : (t : ℕ) → t < length rows → words (rows ++ joined_row rows us ∷ []) t ≡ words rows t
+  words_old t h = get_or_append_left rows (joined_row rows us ∷ []) [] t h
 
-  pub needs_new : (v : ℕ) → AllByRecursion (λ u. u < 512) us → v < 512 → needs (rows ++ joined_row rows us) targets v ≡ reaches rows us v
-  needs_new v few small =
-      let at : (targets * 8 + v / 64) - targets * 8 ≡ v / 64 = omega arith in
-      ap (λ n. bit n (v % 64)) (get_or-append_right rows (joined_row rows us) (targets * 8) (targets * 8 + v / 64) 0 whole (omega arith) ∙ ap (λ n. slice_index (joined_row rows us) n) at)
-      ∙ bit_joined_row rows us v few small
+  words_new : words (rows ++ joined_row rows us ∷ []) (length rows) ≡ joined_row rows us
+  words_new = get_or_push rows (joined_row rows us) [] (length rows) refl
+
+  pub needs_old : (t v : ℕ) → t < length rows → needs (rows ++ joined_row rows us ∷ []) t v ≡ needs rows t v
+  needs_old t v h = ap (λ row. has_bit row v) (words_old t h)
+
+  pub needs_new : (v : ℕ) → AllByRecursion (λ u. u < 512) us → v < 512 → needs (rows ++ joined_row rows us ∷ []) (length rows) v ≡ reaches rows us v
+  needs_new v few small = ap (λ row. has_bit row v) words_new ∙ bit_joined_row rows us v few small
 
 -- what is reached lies below
-reached_lower : (rows us : List ℕ) (n v : ℕ) → AllByRecursion (λ u. (u < n) × (needs rows u v ≡ true → v < u)) us → reaches rows us v ≡ true → v < n
+reached_lower : (rows : List (List ℕ)) (us : List ℕ) (n v : ℕ) → AllByRecursion (λ u. (u < n) × (needs rows u v ≡ true → v < u)) us → reaches rows us v ≡ true → v < n
 reached_lower rows [] n v each e = absurd (false≢true e)
 reached_lower rows (u ∷ us) n v each e =
     ⊎_elim
@@ -113,7 +111,7 @@ reached_lower rows (u ∷ us) n v each e =
     (or_cases (needs rows u v || u == v) _ e)
 
 -- what is reached passes on what it needs
-reached_chained : (rows us : List ℕ) (v w : ℕ) → AllByRecursion (λ u. needs rows u v ≡ true → needs rows u w ≡ true) us → reaches rows us v ≡ true → needs rows v w ≡ true → reaches rows us w ≡ true
+reached_chained : (rows : List (List ℕ)) (us : List ℕ) (v w : ℕ) → AllByRecursion (λ u. needs rows u v ≡ true → needs rows u w ≡ true) us → reaches rows us v ≡ true → needs rows v w ≡ true → reaches rows us w ≡ true
 reached_chained rows [] v w each e d = absurd (false≢true e)
 reached_chained rows (u ∷ us) v w each e d =
     ⊎_elim
@@ -121,39 +119,40 @@ reached_chained rows (u ∷ us) v w each e d =
     (λ rest. or_right (needs rows u w || u == w) _ (reached_chained rows us v w each.1 rest d))
     (or_cases (needs rows u v || u == v) _ e)
 
-all_of : {P Q : ℕ → Type 0} → ((x : ℕ) → P x → Q x) → (xs : List ℕ) → AllByRecursion P xs → AllByRecursion Q xs
-all_of f [] h = tt
-all_of f (x ∷ xs) h = (f x h.0, all_of f xs h.1)
-
 -- One target more, with earlier ones as prerequisites.
-pub rows_more : (targets : ℕ) (rows us : List ℕ) → targets < 512 → SoundRows targets rows → AllByRecursion (λ u. u < targets) us → SoundRows (targets + 1) (rows ++ joined_row rows us)
-rows_more targets rows us few sound below =
-    let small = all_of {P = λ u. u < targets} {Q = λ u. u < 512} (λ u h. omega arith) us below in
-    let old = needs_old rows us targets sound.whole in
-    let new : (v : ℕ) → v < 512 → needs (rows ++ joined_row rows us) targets v ≡ reaches rows us v = λ v h. needs_new rows us targets sound.whole v small h in
-    let lower_new : (v : ℕ) → v < 512 → reaches rows us v ≡ true → v < targets = λ v h e.
-    reached_lower rows us targets v (all_of {P = λ u. u < targets} {Q = λ u. (u < targets) × (needs rows u v ≡ true → v < u)} (λ u l. (l, sound.lower u v l h)) us below) e in
+pub rows_more : (rows : List (List ℕ)) (us : List ℕ) → length rows < 512 → SoundRows rows → AllByRecursion (λ u. u < length rows) us → SoundRows (rows ++ joined_row rows us ∷ [])
+rows_more rows us few sound below =
+    let small = All-weaker (λ u. u < length rows) (λ u. u < 512) (λ u h. omega arith) us below in
+    let old = needs_old rows us in
+    let new : (v : ℕ) → v < 512 → needs (rows ++ joined_row rows us ∷ []) (length rows) v ≡ reaches rows us v = λ v h. needs_new rows us v small h in
+    let lower_new : (v : ℕ) → v < 512 → reaches rows us v ≡ true → v < length rows = λ v h e.
+    reached_lower rows us (length rows) v (All-weaker (λ u. u < length rows) (λ u. (u < length rows) × (needs rows u v ≡ true → v < u)) (λ u l. (l, sound.lower u v l h)) us below) e in
+    let long = length_push rows (joined_row rows us) in
     record {
-      whole = length-append rows (joined_row rows us) ∙ (λ i. sound.whole i + length_joined_row rows us i) ∙ omega arith;
+      whole = λ t ht.
+          ⊎_elim
+          (λ is. ap length (ap (words (rows ++ joined_row rows us ∷ [])) is ∙ words_new rows us) ∙ length_joined_row rows us)
+          (⊎_elim (λ lt. ap length (words_old rows us t lt) ∙ sound.whole t lt) (λ gt. absurd (omega arith)))
+          (cases_order t (length rows));
       lower = λ t u ht hu e.
           ⊎_elim
-          (λ is. let r = lower_new u hu (sym (new u hu) ∙ ap (λ n. needs (rows ++ joined_row rows us) n u) (sym is) ∙ e) in omega arith)
-          (⊎_elim (λ lt. sound.lower t u lt hu (sym (old t u lt hu) ∙ e)) (λ gt. absurd (omega arith)))
-          (cases_order t targets);
+          (λ is. let r = lower_new u hu (sym (new u hu) ∙ ap (λ n. needs (rows ++ joined_row rows us ∷ []) n u) (sym is) ∙ e) in omega arith)
+          (⊎_elim (λ lt. sound.lower t u lt hu (sym (old t u lt) ∙ e)) (λ gt. absurd (omega arith)))
+          (cases_order t (length rows));
       chained = λ t u v ht hu hv e d.
           ⊎_elim
           (λ is.
-          let r = sym (new u hu) ∙ ap (λ n. needs (rows ++ joined_row rows us) n u) (sym is) ∙ e in
+          let r = sym (new u hu) ∙ ap (λ n. needs (rows ++ joined_row rows us ∷ []) n u) (sym is) ∙ e in
           let lt = lower_new u hu r in
-          ap (λ n. needs (rows ++ joined_row rows us) n v) is ∙ new v hv
-          ∙ reached_chained rows us u v (all_of {P = λ w. w < targets} {Q = λ w. needs rows w u ≡ true → needs rows w v ≡ true} (λ w l k. sound.chained w u v l hu hv k (sym (old u v lt hv) ∙ d)) us below) r
-          (sym (old u v lt hv) ∙ d))
+          ap (λ n. needs (rows ++ joined_row rows us ∷ []) n v) is ∙ new v hv
+          ∙ reached_chained rows us u v (All-weaker (λ w. w < length rows) (λ w. needs rows w u ≡ true → needs rows w v ≡ true) (λ w l k. sound.chained w u v l hu hv k (sym (old u v lt) ∙ d)) us below) r
+          (sym (old u v lt) ∙ d))
           (⊎_elim
           (λ lt.
-          let first = sym (old t u lt hu) ∙ e in
+          let first = sym (old t u lt) ∙ e in
           let ul = sound.lower t u lt hu first in
-          let below_u : u < targets = omega arith in
-          old t v lt hv ∙ sound.chained t u v lt hu hv first (sym (old u v below_u hv) ∙ d))
+          let below_u : u < length rows = omega arith in
+          old t v lt ∙ sound.chained t u v lt hu hv first (sym (old u v below_u) ∙ d))
           (λ gt. absurd (omega arith)))
-          (cases_order t targets);
+          (cases_order t (length rows));
     }

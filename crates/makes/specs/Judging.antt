@@ -3,14 +3,24 @@ use Rattle.std.specs.Prelude.{◌≡◌, ℕ, zero, suc, ◌<◌, ◌≤◌, Boo
 use Rattle.std.proofs.Common.{inl, inr, ⊎_elim, sym, ap, ◌∙◌, arith}
 use Rattle.std.proofs.lemmas.List.{length-map}
 use Rattle.std.proofs.lemmas.Bool.{false≢true, ne_eqb, ltb-true, lt-ltb}
+use Rattle.makes.specs.declared.climb.Meeting.{Meeting}
 use Rattle.makes.specs.Machine.{Build, ends_before, side_start, side_end, judged}
-use Rattle.makes.specs.Places.{Sort, session, make, target, step, make_sort, stand_sort, sort_of, is_make, is_stand, row_of, start_of, end_of, kind_at, Shape, shape, shapes, shape_at, parents, starts}
+use Rattle.makes.specs.Places.{Sort, session, make, target, step, make_sort, target_sort, stand_sort, sort_of, is_make, is_target, is_stand, row_of, start_of, end_of, kind_at, Shape, shape, shapes, shape_at, parents, starts}
 use Rattle.makes.specs.Rows.{needs}
 use Rattle.makes.specs.Sound.{fits_below, Sound}
 use Rattle.makes.specs.Tree.{up, Holds, Branch, Side}
 use Rattle.makes.specs.Shapes.{shape_is, above_step, above_target, above_make}
 use Rattle.makes.specs.TreeLemmas.{holds_le, holds_split}
 use Rattle.makes.specs.Views.{start_is, end_is}
+
+-- What the judgement at a meeting asks: the sides are in the table, they are targets exactly at a make, and there they have rows.
+pub record Judgeable (s : Build) (m : Meeting) : Type 0 where
+  pub left : m.left < length s.places
+  pub right : m.right < length s.places
+  pub left_kind : is_target (kind_at s.places m.left) ≡ is_make (kind_at s.places m.place)
+  pub right_kind : is_target (kind_at s.places m.right) ≡ is_make (kind_at s.places m.place)
+  pub left_row : is_make (kind_at s.places m.place) ≡ true → row_of (kind_at s.places m.left) < length s.rows
+  pub right_row : is_make (kind_at s.places m.place) ≡ true → row_of (kind_at s.places m.right) < length s.rows
 
 -- an end before a start, by its numbers
 pub ends_parts : (o q : Option ℕ) → ends_before o q ≡ true → (e : ℕ) × (k : ℕ) × (o ≡ Some e) × (q ≡ Some k) × (e < k)
@@ -30,8 +40,28 @@ make_not_stand make m e = false≢true e
 make_not_stand target m e = false≢true m
 make_not_stand step m e = false≢true m
 
+-- where processes stand is neither a target nor a make
+stand_is_neither : (k : Sort) → stand_sort k ≡ true → target_sort k ≡ make_sort k
+stand_is_neither session e = refl
+stand_is_neither make e = absurd (false≢true e)
+stand_is_neither target e = absurd (false≢true e)
+stand_is_neither step e = refl
+
+-- targets, and nothing else, stand right below a make
+target_below_make : (k above : Sort) → fits_below k above ≡ true → target_sort k ≡ make_sort above
+target_below_make session above f = absurd (false≢true f)
+target_below_make make session f = refl
+target_below_make make make f = absurd (false≢true f)
+target_below_make make target f = absurd (false≢true f)
+target_below_make make step f = refl
+target_below_make target above f = sym f
+target_below_make step session f = absurd (false≢true f)
+target_below_make step make f = absurd (false≢true f)
+target_below_make step target f = refl
+target_below_make step step f = absurd (false≢true f)
+
 make_target : make ≡ target → ⊥
-make_target e = let z : ◌≡◌ {A = ℕ} 0 1 = cc in omega arith
+make_target e = cc
 
 module _ (s : Build) (sound : Sound s) where
   size : length (shapes s.places) ≡ length s.places
@@ -72,14 +102,24 @@ module _ (s : Build) (sound : Sound s) where
   side_target c l a m h stands (inr b) = b
 
   pub side_row : (c l a : ℕ) → is_make (kind_at s.places c) ≡ true → a < length s.places → is_stand (kind_at s.places a) ≡ true → Side (parents s.places) c l a
-      → row_of (kind_at s.places l) < s.targets
+      → row_of (kind_at s.places l) < length s.rows
   side_row c l a m h stands side =
       let t = below_make c l a m h (side_target c l a m h stands side) in
       let r = sound.slots.row l t.0 t.1 in
       let e = row_is l in
       omega arith
 
-  few : s.targets ≤ 512
+  -- a side of a place where processes stand is a target exactly at a make
+  pub side_kind : (c l a : ℕ) → l < length s.places → is_stand (kind_at s.places a) ≡ true → Side (parents s.places) c l a → is_target (kind_at s.places l) ≡ is_make (kind_at s.places c)
+  side_kind c l a h stands (inl e) = ap (λ x. is_target (kind_at s.places x)) e.0 ∙ stand_is_neither (sort_of (kind_at s.places c)) (ap (λ x. is_stand (kind_at s.places x)) (sym e.1) ∙ stands)
+  side_kind c l a h stands (inr b) =
+      let n = size in
+      ap target_sort (sym (sort_is l))
+      ∙ target_below_make _ _ (sound.tree.fitting l b.below (omega arith))
+      ∙ ap (λ x. make_sort (shape_at (shapes s.places) x).sort) b.parent
+      ∙ ap make_sort (sort_is c)
+
+  few : length s.rows ≤ 512
   few = let a = sound.room.targets in let b = sound.room.most_targets in omega arith
 
   -- the side that is the place itself starts and ends at the timestamp's number
@@ -91,8 +131,8 @@ module _ (s : Build) (sound : Sound s) where
       go false h i = sound.times.forward m k e (start_is s.places m ∙ h) (end_is s.places m ∙ i)
 
   -- The judgement at a place, for sides that have rows below a make.
-  pub judged_on : (c l m r a b d : ℕ) → (is_make (kind_at s.places c) ≡ true → row_of (kind_at s.places l) < s.targets) → (is_make (kind_at s.places c) ≡ true → row_of (kind_at s.places m) < s.targets)
-      → (is_make (kind_at s.places c) ≡ true → row_of (kind_at s.places r) < s.targets)
+  pub judged_on : (c l m r a b d : ℕ) → (is_make (kind_at s.places c) ≡ true → row_of (kind_at s.places l) < length s.rows) → (is_make (kind_at s.places c) ≡ true → row_of (kind_at s.places m) < length s.rows)
+      → (is_make (kind_at s.places c) ≡ true → row_of (kind_at s.places r) < length s.rows)
       → judged s (record { place = c; left = l; right = m }) a b ≡ true → judged s (record { place = c; left = m; right = r }) b d ≡ true → judged s (record { place = c; left = l; right = r }) a d ≡ true
   judged_on c l m r a b d rl rm rr = go (is_make (kind_at s.places c)) refl
     where
@@ -111,7 +151,7 @@ module _ (s : Build) (sound : Sound s) where
           let f = span_forward c m b p.1 q.0 p.3 q.2 in
           ends_from _ _ p.0 q.1 p.2 q.3 (let x = p.4 in let y = q.4 in omega arith)
 
-  pub judged_back : (c l a d : ℕ) → (l ≢ c) → (is_make (kind_at s.places c) ≡ true → row_of (kind_at s.places l) < s.targets) → judged s (record { place = c; left = l; right = l }) a d ≢ true
+  pub judged_back : (c l a d : ℕ) → (l ≢ c) → (is_make (kind_at s.places c) ≡ true → row_of (kind_at s.places l) < length s.rows) → judged s (record { place = c; left = l; right = l }) a d ≢ true
   judged_back c l a d ne rl = go (is_make (kind_at s.places c)) refl
     where
       go : (t : Bool) → is_make (kind_at s.places c) ≡ t

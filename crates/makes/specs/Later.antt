@@ -28,13 +28,13 @@ pub record Later (s t : Build) : Type 0 where
   pub shape : (x : ℕ) → x < length s.places → shape_at (shapes t.places) x ≡ shape_at (shapes s.places) x
   pub starts : (x k : ℕ) → x < length s.places → slice_index_or (starts s.places) x None ≡ Some k → slice_index_or (starts t.places) x None ≡ Some k
   pub ends : (x : ℕ) → x < length s.places → (slice_index_or (ends t.places) x None ≡ slice_index_or (ends s.places) x None) ⊎ ((slice_index_or (ends s.places) x None ≡ None) × (slice_index_or (ends t.places) x None ≡ Some (s.number + 1)))
-  pub needs : (r u : ℕ) → r < s.targets → u < 512 → needs t.rows r u ≡ needs s.rows r u
+  pub needs : (r u : ℕ) → r < length s.rows → u < 512 → needs t.rows r u ≡ needs s.rows r u
 
 -- a step has started
 step_started : (k : Kind) → sort_of k ≡ step → is_some (start_of k) ≡ true
-step_started Session e = absurd (let z : ◌≡◌ {A = ℕ} 0 1 = cc in omega arith)
-step_started (Make status ordinal targets) e = absurd (let z : ◌≡◌ {A = ℕ} 0 1 = cc in omega arith)
-step_started (Target row) e = absurd (let z : ◌≡◌ {A = ℕ} 0 1 = cc in omega arith)
+step_started Session e = cc
+step_started (Make m) e = cc
+step_started (Target row) e = cc
 step_started (Step start end) e = refl
 
 some_of : (o : Option ℕ) → is_some o ≡ true → (k : ℕ) × (o ≡ Some k)

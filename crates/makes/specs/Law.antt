@@ -12,7 +12,7 @@ use Rattle.order.specs.Events.{Told, birth, make, target, death, post, await}
 use Rattle.order.specs.Machine.{refused_if}
 use Rattle.order.specs.Meaning.{last_number}
 use Rattle.order.specs.Right.{Right, EventTaken, StampGiven}
-use Rattle.makes.specs.declared.births.Birth.{Birth}
+use Rattle.births.specs.declared.Birth.{Birth}
 use Rattle.makes.specs.Machine.{Build, found, lives_in, home_of, parent_home, born, born_at, with_step, turned_make, declared, died, counted, birth_checks, birth_from, make_checks, make_from, target_checks, target_from, death_from, tell_make_order, stamp_from}
 use Rattle.makes.specs.Order.{make_machine}
 use Rattle.makes.specs.Places.{is_make, targets_of, place_at, kind_at, stand, parents, birth_at}
@@ -38,7 +38,7 @@ module _ (s : Build) (sound : Sound s) where
   parent_tells : (q : ℕ) → IfSome (parent_home s q) (ParentHome s)
   parent_tells q = go (q == 0)
     where
-      home : (o : Option ℕ) → MatchOption o (Nobody s.births q) (λ i. Found s.births q i) → IfSome (option_map (λ i. (birth_at s.births i).home) o) (ParentHome s)
+      home : (o : Option ℕ) → MatchOption o (Nobody s.births q) (λ i. Found s.births q i) → IfSome (option_map (λ i. (birth_at s.births i).at) o) (ParentHome s)
       home None h = tt
       home (Some i) h = inr (i, h.within, h.live, refl)
 
@@ -49,7 +49,7 @@ module _ (s : Build) (sound : Sound s) where
   home_tells : (p : ℕ) → IfSome (home_of s p) (ParentHome s)
   home_tells p = go (found s p) (found_tells s.births p)
     where
-      go : (o : Option ℕ) → MatchOption o (Nobody s.births p) (λ i. Found s.births p i) → IfSome (option_map (λ i. (birth_at s.births i).home) o) (ParentHome s)
+      go : (o : Option ℕ) → MatchOption o (Nobody s.births p) (λ i. Found s.births p i) → IfSome (option_map (λ i. (birth_at s.births i).at) o) (ParentHome s)
       go None h = tt
       go (Some i) h = inr (i, h.within, h.live, refl)
 
@@ -85,13 +85,13 @@ module _ (s : Build) (sound : Sound s) where
   make_taken : (p : ℕ) (o : Option ℕ) → MatchOption o (Nobody s.births p) (λ i. Found s.births p i) → IfOk (make_from s o) (EventTaken make_machine s (make p))
   make_taken p None h = tt
   make_taken p (Some i) f =
-      passing (EventTaken make_machine s (make p)) (make_checks s (birth_at s.births i).home) (Ok (turned_make s i)) (λ passed.
+      passing (EventTaken make_machine s (make p)) (make_checks s (birth_at s.births i).at) (Ok (turned_make s i)) (λ passed.
       let more = still_counted s.number sound.number passed.1.1.1.0 in
       let shallow = leb-false _ _ passed.1.0 in
       let room = leb-false _ _ passed.1.1.0 in
       record {
         advanced = advanced s (turned_make s i) sound (turned_later s sound more i f.within f.live passed.0 shallow room);
-        lives = lives_moved s.births i (record { process = (birth_at s.births i).process; home = length s.places; live = (birth_at s.births i).live }) f.within refl refl;
+        lives = lives_moved s.births i (record { process = (birth_at s.births i).process; at = length s.places; live = (birth_at s.births i).live }) f.within refl refl;
         valid = turned_sound s sound more i f.within f.live passed.0 shallow room;
       })
 
@@ -117,7 +117,7 @@ module _ (s : Build) (sound : Sound s) where
       let more = still_counted s.number sound.number passed.0 in
       record {
         advanced = advanced s (died s i) sound (died_later s sound more i f.within f.live);
-        lives = lives_died s.births i (record { process = (birth_at s.births i).process; home = (birth_at s.births i).home; live = false }) f.within p refl f sound.births.only;
+        lives = lives_died s.births i (record { process = (birth_at s.births i).process; at = (birth_at s.births i).at; live = false }) f.within p refl f sound.births.only;
         valid = died_sound s sound more i f.within f.live;
       })
 
@@ -155,7 +155,7 @@ birth_ended s p t (Some h) e = refusing (birth_checks s p h t) _ 4 (eq-eqb s.num
 
 make_ended : (s : Build) (o : Option ℕ) → s.number ≡ last_number → is_ok (make_from s o) ≡ false
 make_ended s None e = refl
-make_ended s (Some i) e = refusing (make_checks s (birth_at s.births i).home) _ 3 (eq-eqb s.number last_number e)
+make_ended s (Some i) e = refusing (make_checks s (birth_at s.births i).at) _ 3 (eq-eqb s.number last_number e)
 
 target_ended : (s : Build) (ks : List ℕ) (o : Option ℕ) → s.number ≡ last_number → is_ok (target_from s ks o) ≡ false
 target_ended s ks None e = refl
@@ -173,16 +173,16 @@ event_ended s (death p) e = death_ended s (found s p) e
 event_ended s (post p f) e = refl
 event_ended s (await p f) e = refl
 
-stamp_refused : (s : Build) (o : Option ℕ) → result_err (stamp_from s (option_map (λ i. (birth_at s.births i).home) o)) ≡ cond (is_some o) (cond (s.number == last_number) (Some UsedUp) None) (Some NotLive)
+stamp_refused : (s : Build) (o : Option ℕ) → result_err (stamp_from s (option_map (λ i. (birth_at s.births i).at) o)) ≡ cond (is_some o) (cond (s.number == last_number) (Some UsedUp) None) (Some NotLive)
 stamp_refused s None = refl
 stamp_refused s (Some i) = go (s.number == last_number)
   where
-    go : (b : Bool) → result_err {T = Timestamp × Build} (refused_if b UsedUp (Ok (record { number = s.number + 1; place = stand s.places (birth_at s.births i).home }, counted s))) ≡ cond b (Some UsedUp) None
+    go : (b : Bool) → result_err {T = Timestamp × Build} (refused_if b UsedUp (Ok (record { number = s.number + 1; place = stand s.places (birth_at s.births i).at }, counted s))) ≡ cond b (Some UsedUp) None
     go true = refl
     go false = refl
 
 -- some birth is counted
-pub counted_some : (f : Birth → Bool) (bs : List Birth) → 0 < count_by f bs → (i : ℕ) × (i < length bs) × (f (birth_at bs i) ≡ true)
+pub counted_some : (f : Birth ℕ → Bool) (bs : List (Birth ℕ)) → 0 < count_by f bs → (i : ℕ) × (i < length bs) × (f (birth_at bs i) ≡ true)
 counted_some f [] h = absurd (omega arith)
 counted_some f (b ∷ bs) h =
     ⊎_elim
@@ -207,7 +207,7 @@ somebody_lives s sound =
       λ h.
           let f = (live_decides s.births h.0).0 h.1 in
           let c = lodger_counts (parents s.places) s.births 0 f.0 f.1.within f.1.live
-          ((holds_decides (parents s.places) sound.tree.earlier 0 (birth_at s.births f.0).home).1 (root_holds (parents s.places) sound.tree.earlier _)) in
+          ((holds_decides (parents s.places) sound.tree.earlier 0 (birth_at s.births f.0).at).1 (root_holds (parents s.places) sound.tree.earlier _)) in
           lt-ltb 0 _ (omega arith),
     )
 

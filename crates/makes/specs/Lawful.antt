@@ -72,7 +72,7 @@ module _ (s : Build) (sound : Sound s) where
   judged_chain a b c m n o ka kb kc hm hn (crossed e mid same other) jm jn =
       let jn' : judged s (record { place = m.place; left = m.right; right = m.left }) b.number c.number ≡ true =
       judged_at (record { place = m.place; left = m.right; right = m.left }) n b.number c.number (λ i. record { place = e i; left = mid i; right = same i }) jn in
-      let rl : is_make (kind_at s.places m.place) ≡ true → row_of (kind_at s.places m.left) < s.targets = λ t. side_row s sound m.place m.left a.place t ka.within ka.stands hm.left in
+      let rl : is_make (kind_at s.places m.place) ≡ true → row_of (kind_at s.places m.left) < length s.rows = λ t. side_row s sound m.place m.left a.place t ka.within ka.stands hm.left in
       absurd (judged_back s sound m.place m.left a.number c.number other rl
       (judged_on s sound m.place m.left m.right m.left a.number b.number c.number rl
       (λ t. side_row s sound m.place m.right b.place t kb.within kb.stands hm.right) rl jm jn'))

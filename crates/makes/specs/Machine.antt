@@ -1,5 +1,5 @@
 -- The make order as a machine.
-use Rattle.std.specs.Prelude.{ℕ, ◌+◌, ◌-◌, ◌*◌, min, Bool, true, false, cond, not, ◌&&◌, ◌||◌, List, [], ◌∷◌, ◌++◌, map, reverse, length, replicate, is_some, Some, None, Ok, Err, Option, Result, ◌==◌, nat_le, nat_lt, slice_index, slice_set}
+use Rattle.std.specs.Prelude.{ℕ, ◌+◌, ◌-◌, ◌*◌, ◌≤◌, min, Bool, true, false, cond, not, ◌&&◌, ◌||◌, List, [], ◌∷◌, ◌++◌, map, reverse, length, replicate, is_some, Some, None, Ok, Err, Option, Result, ◌==◌, nat_le, nat_lt, slice_index, slice_set}
 use Rattle.std.specs.Option.{option_map}
 use Rattle.faults.specs.declared.OrderFault.{OrderFault}
 use Rattle.faults.specs.declared.OrderFault.TheVariants.{NotLive, LiveAlready, NotMake, MakeAlready, Undeclared, TooDeep, TableFull, UsedUp, Unfit}
@@ -7,27 +7,25 @@ use Rattle.order.specs.declared.Timestamp.{Timestamp}
 use Rattle.order.specs.Events.{Told, birth, make, target, death, post, await}
 use Rattle.order.specs.Machine.{checked}
 use Rattle.order.specs.Meaning.{Meaning, last_number}
-use Rattle.makes.specs.declared.births.Birth.{Birth}
+use Rattle.births.specs.declared.Birth.{Birth}
 use Rattle.makes.specs.declared.climb.Meeting.{Meeting}
-use Rattle.makes.specs.declared.places.Kind.TheVariants.{Make}
 use Rattle.makes.specs.declared.places.Place.{Place}
-use Rattle.makes.specs.declared.places.Status.TheVariants.{Unstarted}
 use Rattle.makes.specs.declared.room.Room.{Room}
-use Rattle.makes.specs.Places.{is_make, is_stand, ordinal_of, targets_of, row_of, start_of, end_of, one_more, one_less, no_place, place_at, kind_at, parents, stand, changed, step_added, target_added, birth_at, live_birth, all_declared, row_in}
+use Rattle.births.specs.Births.{live_birth}
+use Rattle.makes.specs.Places.{is_make, is_stand, ordinal_of, targets_of, row_of, start_of, end_of, one_more, one_less, no_place, place_at, kind_at, parents, stand, changed, make_added, step_added, target_added, birth_at, all_declared, row_in}
 use Rattle.makes.specs.Rows.{needs, joined_row}
 use Rattle.makes.specs.Tree.{line, climb}
 
--- The number, the room, the births and the places, each oldest first, how many makes and targets there are, for each make the places of its
--- targets, and the rows of prerequisites.
+-- The number, the room, the births and the places, each oldest first, how many makes there are, for each make the places of its targets, and for
+-- each target its row of prerequisites.
 pub record Build : Type 0 where
   pub number : ℕ
   pub room : Room
-  pub births : List Birth
+  pub births : List (Birth ℕ)
   pub places : List Place
   pub makes : ℕ
-  pub targets : ℕ
   pub slots : List ℕ
-  pub rows : List ℕ
+  pub rows : List (List ℕ)
 
 -- room over a limit counts as the limit
 abbrev pub capped : Room → Room
@@ -41,7 +39,6 @@ start_in room = record {
   births = [];
   places = no_place ∷ [];
   makes = 0;
-  targets = 0;
   slots = replicate (room.makes * room.targets) 0;
   rows = [];
 }
@@ -57,7 +54,7 @@ abbrev pub lives_in : Build → ℕ → Bool
 lives_in s p = is_some (found s p)
 
 abbrev pub home_of : Build → ℕ → Option ℕ
-home_of s p = option_map (λ i. (birth_at s.births i).home) (found s p)
+home_of s p = option_map (λ i. (birth_at s.births i).at) (found s p)
 
 -- a parent's home: the session for parent 0
 abbrev pub parent_home : Build → ℕ → Option ℕ
@@ -70,22 +67,31 @@ slots_from s m = ordinal_of (kind_at s.places m) * s.room.targets
 abbrev pub target_at : Build → ℕ → ℕ → ℕ
 target_at s m k = slice_index s.slots (slots_from s m + (k - 1))
 
--- a process born at place x, where the places are these
-abbrev pub born_at : Build → ℕ → List Place → ℕ → Build
-born_at s p ps x = record {
-  number = s.number + 1;
+-- the make m has declared a target with this number
+abbrev pub HasTarget : Build → ℕ → ℕ → Type 0
+HasTarget s m k = (1 ≤ k) × (k ≤ targets_of (kind_at s.places m))
+
+-- a process born at the number n and place x, where the places are these
+abbrev pub settled : ℕ → Build → ℕ → List Place → ℕ → Build
+settled n s p ps x = record {
+  number = n;
   room = s.room;
-  births = s.births ++ record { process = p; home = x; live = true } ∷ [];
+  births = s.births ++ record { process = p; at = x; live = true } ∷ [];
   places = changed one_more ps (line (parents ps) x);
   makes = s.makes;
-  targets = s.targets;
   slots = s.slots;
   rows = s.rows;
 }
 
--- the places with a new step of the make's target; the make has begun
+abbrev pub born_at : Build → ℕ → List Place → ℕ → Build
+born_at s p ps x = settled (s.number + 1) s p ps x
+
+-- the places with a new step of the make's target, which starts at n; the make has begun
+abbrev pub stepped : ℕ → Build → ℕ → ℕ → List Place
+stepped n s m t = step_added n s.places m (target_at s m t)
+
 abbrev pub with_step : Build → ℕ → ℕ → List Place
-with_step s m t = step_added (s.number + 1) s.places m (target_at s m t)
+with_step s m t = stepped (s.number + 1) s m t
 
 -- without a target a process is born where its parent stands, else at a new step
 abbrev pub born : Build → ℕ → ℕ → ℕ → Build
@@ -107,18 +113,20 @@ birth_from s p t (Some h) = checked (birth_checks s p h t) (Ok (born s p h t))
 abbrev pub tell_birth : Build → ℕ → ℕ → ℕ → Result Build OrderFault
 tell_birth s p q t = birth_from s p t (parent_home s q)
 
--- a process that turns out to be a make: a new place right below where it stands, which is its home from now on
-abbrev pub turned_make : Build → ℕ → Build
-turned_make s i = record {
-  number = s.number + 1;
+-- a process that turns out at n to be a make: a new place right below where it stands, which is its home from now on
+abbrev pub turned : ℕ → Build → ℕ → Build
+turned n s i = record {
+  number = n;
   room = s.room;
-  births = slice_set s.births i (record { process = (birth_at s.births i).process; home = length s.places; live = (birth_at s.births i).live });
-  places = s.places ++ record { parent = (birth_at s.births i).home; depth = (place_at s.places (birth_at s.births i).home).depth + 1; live = 1; kind = Make Unstarted s.makes 0 } ∷ [];
+  births = slice_set s.births i (record { process = (birth_at s.births i).process; at = length s.places; live = (birth_at s.births i).live });
+  places = make_added s.places (birth_at s.births i).at s.makes;
   makes = s.makes + 1;
-  targets = s.targets;
   slots = s.slots;
   rows = s.rows;
 }
+
+abbrev pub turned_make : Build → ℕ → Build
+turned_make s i = turned (s.number + 1) s i
 
 abbrev pub make_checks : Build → ℕ → List (Bool × OrderFault)
 make_checks s h =
@@ -130,7 +138,7 @@ make_checks s h =
 
 abbrev pub make_from : Build → Option ℕ → Result Build OrderFault
 make_from s None = Err NotLive
-make_from s (Some i) = checked (make_checks s (birth_at s.births i).home) (Ok (turned_make s i))
+make_from s (Some i) = checked (make_checks s (birth_at s.births i).at) (Ok (turned_make s i))
 
 abbrev pub tell_make : Build → ℕ → Result Build OrderFault
 tell_make s p = make_from s (found s p)
@@ -139,24 +147,26 @@ tell_make s p = make_from s (found s p)
 abbrev pub rows_of : Build → ℕ → List ℕ → List ℕ
 rows_of s m ks = map (row_in s.places s.slots (slots_from s m)) ks
 
--- a make with one target more
-abbrev pub declared : Build → ℕ → List ℕ → Build
-declared s m ks = record {
-  number = s.number + 1;
+-- a make with one target more, declared at n
+abbrev pub listed : ℕ → Build → ℕ → List ℕ → Build
+listed n s m ks = record {
+  number = n;
   room = s.room;
   births = s.births;
-  places = target_added s.places m s.targets;
+  places = target_added s.places m (length s.rows);
   makes = s.makes;
-  targets = s.targets + 1;
   slots = slice_set s.slots (slots_from s m + targets_of (kind_at s.places m)) (length s.places);
-  rows = s.rows ++ joined_row s.rows (rows_of s m ks);
+  rows = s.rows ++ joined_row s.rows (rows_of s m ks) ∷ [];
 }
+
+abbrev pub declared : Build → ℕ → List ℕ → Build
+declared s m ks = listed (s.number + 1) s m ks
 
 abbrev pub target_checks : Build → ℕ → List ℕ → List (Bool × OrderFault)
 target_checks s h ks =
     (not (is_make (kind_at s.places h)), NotMake)
     ∷ (not (all_declared (targets_of (kind_at s.places h)) ks), Undeclared)
-    ∷ (nat_le s.room.targets s.targets, TableFull)
+    ∷ (nat_le s.room.targets (length s.rows), TableFull)
     ∷ (s.number == last_number, UsedUp)
     ∷ []
 
@@ -167,18 +177,20 @@ target_from s ks (Some h) = checked (target_checks s h ks) (Ok (declared s h ks)
 abbrev pub tell_target : Build → ℕ → List ℕ → Result Build OrderFault
 tell_target s p ks = target_from s ks (home_of s p)
 
--- a process that ends: what held its home counts one less
-abbrev pub died : Build → ℕ → Build
-died s i = record {
-  number = s.number + 1;
+-- a process that ends at n: what held its home counts one less
+abbrev pub ended : ℕ → Build → ℕ → Build
+ended n s i = record {
+  number = n;
   room = s.room;
-  births = slice_set s.births i (record { process = (birth_at s.births i).process; home = (birth_at s.births i).home; live = false });
-  places = changed (one_less (s.number + 1)) s.places (line (parents s.places) (birth_at s.births i).home);
+  births = slice_set s.births i (record { process = (birth_at s.births i).process; at = (birth_at s.births i).at; live = false });
+  places = changed (one_less n) s.places (line (parents s.places) (birth_at s.births i).at);
   makes = s.makes;
-  targets = s.targets;
   slots = s.slots;
   rows = s.rows;
 }
+
+abbrev pub died : Build → ℕ → Build
+died s i = ended (s.number + 1) s i
 
 abbrev pub death_from : Build → Option ℕ → Result Build OrderFault
 death_from s None = Err NotLive
@@ -195,18 +207,20 @@ tell_make_order s (death p) = tell_death s p
 tell_make_order s (post p f) = Err Unfit
 tell_make_order s (await p f) = Err Unfit
 
--- one number more
-abbrev pub counted : Build → Build
-counted s = record {
-  number = s.number + 1;
+-- the number n and no other change
+abbrev pub numbered : ℕ → Build → Build
+numbered n s = record {
+  number = n;
   room = s.room;
   births = s.births;
   places = s.places;
   makes = s.makes;
-  targets = s.targets;
   slots = s.slots;
   rows = s.rows;
 }
+
+abbrev pub counted : Build → Build
+counted s = numbered (s.number + 1) s
 
 abbrev pub stamp_from : Build → Option ℕ → Result (Timestamp × Build) OrderFault
 stamp_from s None = Err NotLive

@@ -8,9 +8,8 @@ make_model s = record {
   number = s.number;
   room = s.room;
   births = vec_items s.births;
-  places = vec_items s.places;
+  places = vec_items s.tree.places;
   makes = s.makes;
-  targets = s.targets;
   slots = vec_items s.slots;
   rows = vec_items s.rows;
 }

@@ -1,6 +1,7 @@
 -- Places and births: what they tell, and how events change them.
-use Rattle.std.specs.Prelude.{ℕ, ◌+◌, ◌-◌, Bool, true, false, cond, ◌&&◌, List, [], ◌∷◌, ◌++◌, map, length, Some, None, Option, ◌==◌, nat_le, slice_index, slice_index_or, slice_set}
-use Rattle.makes.specs.declared.births.Birth.{Birth}
+use Rattle.std.specs.Prelude.{ℕ, ◌+◌, ◌-◌, Bool, true, false, cond, ◌&&◌, List, [], ◌∷◌, ◌++◌, map, Some, None, Option, ◌==◌, nat_le, slice_index, slice_index_or, slice_set}
+use Rattle.std.specs.List.{list_all}
+use Rattle.births.specs.declared.Birth.{Birth}
 use Rattle.makes.specs.declared.places.Kind.{Kind}
 use Rattle.makes.specs.declared.places.Kind.TheVariants.{Session, Make, Target, Step}
 use Rattle.makes.specs.declared.places.Place.{Place}
@@ -32,11 +33,10 @@ closed n (Ended started e) = Ended started e
 -- The sorts of places, and what is told by the sort alone.
 pub data Sort : Type 0 where
   session make target step : Sort
-  deriving IsSet as Sort-set
 
 abbrev pub sort_of : Kind → Sort
 sort_of Session = session
-sort_of (Make status ordinal targets) = make
+sort_of (Make m) = make
 sort_of (Target row) = target
 sort_of (Step start end) = step
 
@@ -62,53 +62,56 @@ stand_sort step = true
 abbrev pub is_make : Kind → Bool
 is_make k = make_sort (sort_of k)
 
+abbrev pub is_target : Kind → Bool
+is_target k = target_sort (sort_of k)
+
 abbrev pub is_stand : Kind → Bool
 is_stand k = stand_sort (sort_of k)
 
 -- which make it is, and how many targets it has declared; 0 of what is no make
 abbrev pub ordinal_of : Kind → ℕ
 ordinal_of Session = 0
-ordinal_of (Make status ordinal targets) = ordinal
+ordinal_of (Make m) = m.ordinal
 ordinal_of (Target row) = 0
 ordinal_of (Step start end) = 0
 
 abbrev pub targets_of : Kind → ℕ
 targets_of Session = 0
-targets_of (Make status ordinal targets) = targets
+targets_of (Make m) = m.targets
 targets_of (Target row) = 0
 targets_of (Step start end) = 0
 
 -- the row of a target; 0 of what is none
 abbrev pub row_of : Kind → ℕ
 row_of Session = 0
-row_of (Make status ordinal targets) = 0
+row_of (Make m) = 0
 row_of (Target row) = row
 row_of (Step start end) = 0
 
 -- the start and the end of a make or a step
 abbrev pub start_of : Kind → Option ℕ
 start_of Session = None
-start_of (Make status ordinal targets) = status_start status
+start_of (Make m) = status_start m.status
 start_of (Target row) = None
 start_of (Step start end) = Some start
 
 abbrev pub end_of : Kind → Option ℕ
 end_of Session = None
-end_of (Make status ordinal targets) = status_end status
+end_of (Make m) = status_end m.status
 end_of (Target row) = None
 end_of (Step start end) = end
 
 -- a make whose step is born at n
 abbrev pub kind_begun : ℕ → Kind → Kind
 kind_begun n Session = Session
-kind_begun n (Make status ordinal targets) = Make (begun n status) ordinal targets
+kind_begun n (Make m) = Make (record { status = begun n m.status; ordinal = m.ordinal; targets = m.targets })
 kind_begun n (Target row) = Target row
 kind_begun n (Step start end) = Step start end
 
 -- a make with one target more
 abbrev pub kind_declared : Kind → Kind
 kind_declared Session = Session
-kind_declared (Make status ordinal targets) = Make status ordinal (targets + 1)
+kind_declared (Make m) = Make (record { status = m.status; ordinal = m.ordinal; targets = m.targets + 1 })
 kind_declared (Target row) = Target row
 kind_declared (Step start end) = Step start end
 
@@ -119,7 +122,7 @@ first_end (Some e) n = Some e
 
 abbrev pub kind_closed : ℕ → Kind → Kind
 kind_closed n Session = Session
-kind_closed n (Make status ordinal targets) = Make (closed n status) ordinal targets
+kind_closed n (Make m) = Make (record { status = closed n m.status; ordinal = m.ordinal; targets = m.targets })
 kind_closed n (Target row) = Target row
 kind_closed n (Step start end) = Step start (first_end end n)
 
@@ -188,35 +191,32 @@ abbrev pub changed : (Place → Place) → List Place → List ℕ → List Plac
 changed f ps [] = ps
 changed f ps (x ∷ xs) = changed f (slice_set ps x (f (place_at ps x))) xs
 
+-- the places with a new make, right below the place of its own process, which is a live process there
+abbrev pub make_added : List Place → ℕ → ℕ → List Place
+make_added ps home ordinal = ps ++ record { parent = home; depth = (place_at ps home).depth + 1; live = 1; kind = Make (record { status = Unstarted; ordinal = ordinal; targets = 0 }) } ∷ []
+
+-- the places with a new one last, below `above` and as deep as the make m, whose kind is now `made`
+abbrev pub added_below : List Place → ℕ → Kind → ℕ → Kind → List Place
+added_below ps m made above kind = slice_set ps m (with_kind (place_at ps m) made) ++ record { parent = above; depth = (place_at ps m).depth; live = 0; kind = kind } ∷ []
+
 -- the places with a new step below a target of the make m, which starts at n: the make has begun
 abbrev pub step_added : ℕ → List Place → ℕ → ℕ → List Place
-step_added n ps m above =
-    slice_set ps m (with_kind (place_at ps m) (kind_begun n (kind_at ps m))) ++ record { parent = above; depth = (place_at ps m).depth; live = 0; kind = Step n None } ∷ []
+step_added n ps m above = added_below ps m (kind_begun n (kind_at ps m)) above (Step n None)
 
 -- the places with a new target of the make m
 abbrev pub target_added : List Place → ℕ → ℕ → List Place
-target_added ps m row =
-    slice_set ps m (with_kind (place_at ps m) (kind_declared (kind_at ps m))) ++ record { parent = m; depth = (place_at ps m).depth; live = 0; kind = Target row } ∷ []
+target_added ps m row = added_below ps m (kind_declared (kind_at ps m)) m (Target row)
 
 -- The table of births.
-abbrev pub no_birth : Birth
-no_birth = record { process = 0; home = 0; live = false }
+abbrev pub no_birth : Birth ℕ
+no_birth = record { process = 0; at = 0; live = false }
 
-abbrev pub birth_at : List Birth → ℕ → Birth
+abbrev pub birth_at : List (Birth ℕ) → ℕ → Birth ℕ
 birth_at bs i = slice_index_or bs i no_birth
-
-abbrev pub is_live : Birth → ℕ → Bool
-is_live b p = b.live && b.process == p
-
--- the birth of a live process, by its place in the table, in the births newest first
-abbrev pub live_birth : List Birth → ℕ → Option ℕ
-live_birth [] p = None
-live_birth (b ∷ bs) p = cond (is_live b p) (Some (length bs)) (live_birth bs p)
 
 -- each is the number of a declared target
 abbrev pub all_declared : ℕ → List ℕ → Bool
-all_declared targets [] = true
-all_declared targets (k ∷ ks) = (nat_le 1 k && nat_le k targets) && all_declared targets ks
+all_declared targets ks = list_all (λ k. nat_le 1 k && nat_le k targets) ks
 
 -- the row of a make's target, by its number from 1; the places of the make's targets are kept from `first` on
 abbrev pub row_in : List Place → List ℕ → ℕ → ℕ → ℕ

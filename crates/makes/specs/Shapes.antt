@@ -206,13 +206,13 @@ module _ (ts : List Shape) (sound : SoundTree ts) where
   not_root x s e other = ⊎_elim (λ z. absurd (other (sym sound.root ∙ ap (λ y. (shape_at ts y).sort) (sym z) ∙ e))) (λ ne. omega arith) (cases_eq x 0)
 
   session_step : session ≡ step → ⊥
-  session_step e = let z : ◌≡◌ {A = ℕ} 0 1 = cc in omega arith
+  session_step e = cc
 
   session_target : session ≡ target → ⊥
-  session_target e = let z : ◌≡◌ {A = ℕ} 0 1 = cc in omega arith
+  session_target e = cc
 
   session_make : session ≡ make → ⊥
-  session_make e = let z : ◌≡◌ {A = ℕ} 0 1 = cc in omega arith
+  session_make e = cc
 
   pub above_target : (x : ℕ) → x < length ts → (shape_at ts x).sort ≡ target → (0 < x) × (up (parents_of ts) x < x) × ((shape_at ts (up (parents_of ts) x)).sort ≡ make)
   above_target x h e =

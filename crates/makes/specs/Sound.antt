@@ -1,11 +1,10 @@
 -- What reachable states of the make order keep.
-use Rattle.std.specs.Prelude.{◌≡◌, ℕ, ◌+◌, ◌-◌, ◌*◌, ◌<◌, ◌≤◌, Bool, true, false, ◌&&◌, List, length, get_or, is_some, Some, None, count_by, Option, ◌==◌, slice_index, slice_index_or}
+use Rattle.std.specs.Prelude.{◌≡◌, ℕ, ◌+◌, ◌*◌, ◌<◌, ◌≤◌, Bool, true, false, ◌&&◌, List, length, is_some, Some, None, count_by, Option, ◌==◌, slice_index, slice_index_or}
 use Rattle.order.specs.Meaning.{last_number}
-use Rattle.makes.specs.declared.births.Birth.{Birth}
-use Rattle.makes.specs.declared.places.Place.{Place}
-use Rattle.makes.specs.Places.{Sort, session, make, target, step, make_sort, target_sort, stand_sort, Shape, shape_at, shapes, parents_of, counts, lives, starts, ends, birth_at, row_in}
+use Rattle.births.specs.declared.Birth.{Birth}
+use Rattle.makes.specs.Places.{Sort, session, make, target, step, make_sort, target_sort, stand_sort, Shape, shape_at, shapes, parents_of, counts, lives, starts, ends, birth_at}
 use Rattle.makes.specs.Machine.{Build}
-use Rattle.makes.specs.Rows.{needs}
+use Rattle.makes.specs.Rows.{words, needs}
 use Rattle.makes.specs.Tree.{up, Earlier, line, levels, holds}
 
 -- what may stand right below what
@@ -53,21 +52,21 @@ pub record SoundTimes (n : ℕ) (ts : List Shape) (ls : List ℕ) (ss es : List 
   pub over : (x : ℕ) → x < length ts → lasting (shape_at ts x).sort ≡ true → is_some (slice_index_or es x None) ≡ (slice_index ls x == 0)
 
 -- a live process at or below x, or the one that is the make x
-abbrev pub counts_at : List ℕ → ℕ → Birth → Bool
-counts_at us x b = b.live && holds us x b.home
+abbrev pub counts_at : List ℕ → ℕ → Birth ℕ → Bool
+counts_at us x b = b.live && holds us x b.at
 
 -- The births: each has a home, no two live ones have one number, and each place has the count of those that are at or below it.
-pub record SoundBirths (bs : List Birth) (ts : List Shape) (ls : List ℕ) : Type 0 where
-  pub housed : (i : ℕ) → i < length bs → (birth_at bs i).home < length ts
-  pub homely : (i : ℕ) → i < length bs → target_sort (shape_at ts (birth_at bs i).home).sort ≡ false
+pub record SoundBirths (bs : List (Birth ℕ)) (ts : List Shape) (ls : List ℕ) : Type 0 where
+  pub housed : (i : ℕ) → i < length bs → (birth_at bs i).at < length ts
+  pub homely : (i : ℕ) → i < length bs → target_sort (shape_at ts (birth_at bs i).at).sort ≡ false
   pub only : (i j : ℕ) → i < length bs → j < length bs → (birth_at bs i).live ≡ true → (birth_at bs j).live ≡ true → (birth_at bs i).process ≡ (birth_at bs j).process → i ≡ j
   pub live : (x : ℕ) → x < length ts → slice_index ls x ≡ count_by (counts_at (parents_of ts) x) bs
 
 -- The rows: each has eight words; a target needs only earlier ones, and all that these need.
-pub record SoundRows (targets : ℕ) (rows : List ℕ) : Type 0 where
-  pub whole : length rows ≡ targets * 8
-  pub lower : (t u : ℕ) → t < targets → u < 512 → needs rows t u ≡ true → u < t
-  pub chained : (t u v : ℕ) → t < targets → u < 512 → v < 512 → needs rows t u ≡ true → needs rows u v ≡ true → needs rows t v ≡ true
+pub record SoundRows (rows : List (List ℕ)) : Type 0 where
+  pub whole : (t : ℕ) → t < length rows → length (words rows t) ≡ 8
+  pub lower : (t u : ℕ) → t < length rows → u < 512 → needs rows t u ≡ true → u < t
+  pub chained : (t u v : ℕ) → t < length rows → u < 512 → v < 512 → needs rows t u ≡ true → needs rows u v ≡ true → needs rows t v ≡ true
 
 -- y is the place of a target of the make m
 pub record TargetOf (ts : List Shape) (m y : ℕ) : Type 0 where
@@ -88,26 +87,18 @@ pub record SoundSlots (ts : List Shape) (cs : List ℕ) (makes targets width : �
 pub record SoundRoom (s : Build) : Type 0 where
   pub births : length s.births ≤ s.room.births
   pub makes : s.makes ≤ s.room.makes
-  pub targets : s.targets ≤ s.room.targets
+  pub targets : length s.rows ≤ s.room.targets
   pub most_births : s.room.births ≤ 4096
   pub most_makes : s.room.makes ≤ 64
   pub most_targets : s.room.targets ≤ 512
   pub slots : length s.slots ≡ s.room.makes * s.room.targets
-  pub places : length s.places ≤ 1 + length s.births + s.makes + s.targets
+  pub places : length s.places ≤ 1 + length s.births + s.makes + length s.rows
 
 pub record Sound (s : Build) : Type 0 where
   pub number : s.number ≤ last_number
   pub tree : SoundTree (shapes s.places)
   pub times : SoundTimes s.number (shapes s.places) (lives s.places) (starts s.places) (ends s.places)
   pub births : SoundBirths s.births (shapes s.places) (lives s.places)
-  pub rows : SoundRows s.targets s.rows
-  pub slots : SoundSlots (shapes s.places) (counts s.places) s.makes s.targets s.room.targets s.slots
+  pub rows : SoundRows s.rows
+  pub slots : SoundSlots (shapes s.places) (counts s.places) s.makes (length s.rows) s.room.targets s.slots
   pub room : SoundRoom s
-
--- What it takes to look up the row of a target of a make, by its number.
-pub record Ready (rows : List ℕ) (ps : List Place) (slots : List ℕ) (first k : ℕ) : Type 0 where
-  pub from_one : 1 ≤ k
-  pub slot : first + (k - 1) < length slots
-  pub place : get_or slots (first + (k - 1)) 0 < length ps
-  pub row : row_in ps slots first k * 8 + 8 ≤ length rows
-  pub few : row_in ps slots first k < 512

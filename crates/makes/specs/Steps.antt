@@ -1,6 +1,7 @@
 -- A birth at a new step keeps what reachable states have.
 use Rattle.std.specs.Prelude.{◌≡◌, ℕ, ◌+◌, ◌-◌, ◌*◌, ◌<◌, ◌≤◌, true, false, cond, ◌||◌, ◌⊎◌, List, [], ◌∷◌, ◌++◌, length, get_or, is_some, Some, None, ◌==◌, ◌≢◌, slice_index, slice_index_or, slice_set, refl}
 use Rattle.std.proofs.Common.{inl, inr, ⊎_elim, sym, ap, subst, ◌∙◌, arith}
+use Rattle.std.proofs.lemmas.Option.{none-some}
 use Rattle.std.proofs.lemmas.List.{length-map, length_push, length-set, map_push, map-set, get_or_past, get_or_append_left, get_or-set_same, get_or-set_other}
 use Rattle.std.proofs.lemmas.Bool.{false≢true, ne_eqb, eq-eqb, eqb-true, cases_eq, or_cases}
 use Rattle.order.specs.Meaning.{last_number}
@@ -23,13 +24,10 @@ use Rattle.makes.specs.Views.{start_is, end_is}
 use Rattle.makes.specs.Walks.{map_set_same}
 
 step_target : step ≡ target → ⊥
-step_target e = let z : ◌≡◌ {A = ℕ} 0 1 = cc in omega arith
+step_target e = cc
 
 step_make : step ≡ make → ⊥
-step_make e = let z : ◌≡◌ {A = ℕ} 0 1 = cc in omega arith
-
-none_is_some : {k : ℕ} → None ≢ Some k
-none_is_some e = let z : ◌≡◌ {A = ℕ} 0 1 = cc in omega arith
+step_make e = cc
 
 -- a place holds itself
 own_held : (us : List ℕ) → Earlier us → (x : ℕ) → holds us x x ≡ true
@@ -194,7 +192,7 @@ module _ (s : Build) (sound : Sound s) (more : s.number + 1 ≤ last_number) (p 
       (begun_some (s.number + 1) (kind_at s.places m) makes (ap is_some (sym (end_is s.places m)) ∙ m_open))
       m_open below.within target_up (lives after) (λ y w. counted_old y) counted_new peopled
 
-  births_on : SoundBirths (s.births ++ record { process = p; home = length s.places; live = true } ∷ []) (shapes s.places ++ shape new_step ∷ []) (lives after)
+  births_on : SoundBirths (s.births ++ record { process = p; at = length s.places; live = true } ∷ []) (shapes s.places ++ shape new_step ∷ []) (lives after)
   births_on =
       let sl = length-map s.places (λ (y : Place). y.live) ∙ sym size in
       let n = length_push (shapes s.places) (shape new_step) in
@@ -205,10 +203,10 @@ module _ (s : Build) (sound : Sound s) (more : s.number + 1 ≤ last_number) (p 
       (ap (λ (y : Shape). target_sort y.sort) (ap (shape_at (shapes s.places ++ shape new_step ∷ [])) (sym size) ∙ shape_new (shapes s.places) (shape new_step)))
       nobody (λ y w. counted_at y)
 
-  slots_on : SoundSlots (shapes s.places ++ shape new_step ∷ []) (counts s.places ++ 0 ∷ []) s.makes s.targets s.room.targets s.slots
+  slots_on : SoundSlots (shapes s.places ++ shape new_step ∷ []) (counts s.places ++ 0 ∷ []) s.makes (length s.rows) s.room.targets s.slots
   slots_on =
-      slots_place (shapes s.places) (shape new_step) (counts s.places) s.makes s.targets s.room.targets s.slots sound.slots
-      (length-map s.places (λ (y : Place). targets_of y.kind) ∙ sym size) s.makes s.targets (omega arith) (omega arith) (λ e. absurd (step_target e)) (λ e. absurd (step_make e))
+      slots_place (shapes s.places) (shape new_step) (counts s.places) s.makes (length s.rows) s.room.targets s.slots sound.slots
+      (length-map s.places (λ (y : Place). targets_of y.kind) ∙ sym size) s.makes (length s.rows) (omega arith) (omega arith) (λ e. absurd (step_target e)) (λ e. absurd (step_make e))
 
   pub stepped_sound : Sound (born_at s p (with_step s m t) (length s.places))
   stepped_sound =
@@ -217,7 +215,7 @@ module _ (s : Build) (sound : Sound s) (more : s.number + 1 ≤ last_number) (p 
       let starts_is = more_starts ready x ∙ ready_starts in
       let ends_is = more_ends ready x ∙ ready_ends in
       let counts-is = more_counts ready x ∙ ready_counts in
-      let lb = length_push s.births (record { process = p; home = length s.places; live = true }) in
+      let lb = length_push s.births (record { process = p; at = length s.places; live = true }) in
       let lp = length_changed one_more ready (line (parents ready) (length s.places)) in
       let rs = ready_size in
       let rp = sound.room.places in
@@ -228,11 +226,11 @@ module _ (s : Build) (sound : Sound s) (more : s.number + 1 ≤ last_number) (p 
             subst (λ ts. SoundTimes (s.number + 1) ts (lives after) (starts after) (ends after)) (sym shapes-is)
             (subst (λ ss. SoundTimes (s.number + 1) (shapes s.places ++ shape new_step ∷ []) (lives after) ss (ends after)) (sym starts_is)
             (subst (λ es. SoundTimes (s.number + 1) (shapes s.places ++ shape new_step ∷ []) (lives after) (slice_set (starts s.places) m (start_of (kind_begun (s.number + 1) (kind_at s.places m))) ++ Some (s.number + 1) ∷ []) es) (sym ends_is) times_on));
-        births = subst (λ ts. SoundBirths (s.births ++ record { process = p; home = length s.places; live = true } ∷ []) ts (lives after)) (sym shapes-is) births_on;
+        births = subst (λ ts. SoundBirths (s.births ++ record { process = p; at = length s.places; live = true } ∷ []) ts (lives after)) (sym shapes-is) births_on;
         rows = sound.rows;
         slots =
-            subst (λ ts. SoundSlots ts (counts after) s.makes s.targets s.room.targets s.slots) (sym shapes-is)
-            (subst (λ cs. SoundSlots (shapes s.places ++ shape new_step ∷ []) cs s.makes s.targets s.room.targets s.slots) (sym counts-is) slots_on);
+            subst (λ ts. SoundSlots ts (counts after) s.makes (length s.rows) s.room.targets s.slots) (sym shapes-is)
+            (subst (λ cs. SoundSlots (shapes s.places ++ shape new_step ∷ []) cs s.makes (length s.rows) s.room.targets s.slots) (sym counts-is) slots_on);
         room = record {
           births = omega arith;
           makes = sound.room.makes;
@@ -265,7 +263,7 @@ module _ (s : Build) (sound : Sound s) (more : s.number + 1 ≤ last_number) (p 
             (λ is.
             ap (λ q. get_or (slice_set (starts s.places) m (start_of (kind_begun (s.number + 1) (kind_at s.places m)))) q None) is
             ∙ get_or-set_same (starts s.places) m (start_of (kind_begun (s.number + 1) (kind_at s.places m))) None (omega arith)
-            ∙ ⊎_elim (λ same. same ∙ ap (λ q. get_or (starts s.places) q None) (sym is) ∙ e) (λ new. absurd (none_is_some (sym new.0 ∙ ap (λ q. get_or (starts s.places) q None) (sym is) ∙ e))) begun_is)
+            ∙ ⊎_elim (λ same. same ∙ ap (λ q. get_or (starts s.places) q None) (sym is) ∙ e) (λ new. absurd (none-some _ (sym new.0 ∙ ap (λ q. get_or (starts s.places) q None) (sym is) ∙ e))) begun_is)
             (λ ne. get_or-set_other (starts s.places) m y (start_of (kind_begun (s.number + 1) (kind_at s.places m))) None ne ∙ e)
             (cases_eq y m);
         ends = λ y w. inl (ap (λ es. get_or es y None) (more_ends ready x ∙ ready_ends) ∙ get_or_append_left (ends s.places) (None ∷ []) None y (omega arith));

@@ -1,18 +1,13 @@
 -- The starts and ends of makes and steps, event by event.
 use Rattle.std.specs.Prelude.{◌≡◌, ℕ, ◌+◌, ◌<◌, ◌≤◌, Bool, true, false, cond, ◌⊎◌, List, [], ◌∷◌, ◌++◌, length, get_or, is_some, Some, None, Option, ◌==◌, ◌≢◌, nat_eq, slice_index, slice_index_or, slice_set, refl}
 use Rattle.std.proofs.Common.{inl, inr, ⊎_elim, sym, ap, subst, ◌∙◌, arith}
+use Rattle.std.proofs.lemmas.Option.{none-some, same_Some}
 use Rattle.std.proofs.lemmas.List.{length_push, length-set, get_or_append_left, get_or_push, get_or_past, get_or-set_same, get_or-set_other}
 use Rattle.std.proofs.lemmas.Bool.{false≢true, ne_eqb, cases_eq, cases_order}
 use Rattle.makes.specs.Places.{step, Shape, shape_at, parents_of}
 use Rattle.makes.specs.Sound.{lasting, SoundTree, SoundTimes}
 use Rattle.makes.specs.Tree.{up, holds}
 use Rattle.makes.specs.Shapes.{shape_old, shape_new, up_old, up_new, above_target, above_step}
-
-none_some : {k : ℕ} → None ≢ Some k
-none_some e = let z : ◌≡◌ {A = ℕ} 0 1 = cc in omega arith
-
-pub some_some : {j k : ℕ} → Some j ≡ Some k → j ≡ k
-some_some e = cc
 
 -- a later number
 pub times_later : (n m : ℕ) (ts : List Shape) (ls : List ℕ) (ss es : List (Option ℕ)) → n ≤ m → SoundTimes n ts ls ss es → SoundTimes m ts ls ss es
@@ -64,10 +59,10 @@ module _ (n : ℕ) (ts : List Shape) (ls : List ℕ) (ss es : List (Option ℕ))
   -- One that has not started: a make or a target.
   pub times_place : (t.sort ≢ step) → (lasting t.sort ≡ true → (l == 0) ≡ false) → SoundTimes (n + 1) (ts ++ t ∷ []) (ls ++ l ∷ []) (ss ++ None ∷ []) (es ++ None ∷ [])
   times_place no_step open-new = record {
-    past = λ x k. seen_cases ss None None (λ y o. o ≡ Some k → k ≤ n + 1) (λ y h e. let p = sound.past y k e in omega arith) (λ e. absurd (none_some e)) (λ y h e. absurd (none_some e)) x;
+    past = λ x k. seen_cases ss None None (λ y o. o ≡ Some k → k ≤ n + 1) (λ y h e. let p = sound.past y k e in omega arith) (λ e. absurd (none-some _ e)) (λ y h e. absurd (none-some _ e)) x;
     forward = λ x k m.
         seen_cases ss None None (λ y o. o ≡ Some k → slice_index_or (es ++ None ∷ []) y None ≡ Some m → k ≤ m)
-        (λ y h e d. sound.forward y k m e (sym (get_or_append_left es (None ∷ []) None y (omega arith)) ∙ d)) (λ e d. absurd (none_some e)) (λ y h e d. absurd (none_some e)) x;
+        (λ y h e d. sound.forward y k m e (sym (get_or_append_left es (None ∷ []) None y (omega arith)) ∙ d)) (λ e d. absurd (none-some _ e)) (λ y h e d. absurd (none-some _ e)) x;
     started = λ x h e.
         ⊎_elim
         (λ is. absurd (no_step (sym (new_sort x is) ∙ e)))
@@ -96,7 +91,7 @@ module _ (n : ℕ) (ts : List Shape) (ls : List ℕ) (ss es : List (Option ℕ))
       (peopled : (y : ℕ) → y < length ts → holds (parents_of (ts ++ t ∷ [])) y (length ts) ≡ true → lasting (shape_at ts y).sort ≡ true → 0 < slice_index ls y) where
     begun_past : (k : ℕ) → begun ≡ Some k → k ≤ n + 1
     begun_past k e =
-        ⊎_elim (λ same. let p = sound.past m k (sym same ∙ e) in omega arith) (λ new. let q = some_some (sym new.1 ∙ e) in omega arith) begun_is
+        ⊎_elim (λ same. let p = sound.past m k (sym same ∙ e) in omega arith) (λ new. let q = same_Some _ _ (sym new.1 ∙ e) in omega arith) begun_is
 
     pub times_step : SoundTimes (n + 1) (ts ++ t ∷ []) after (slice_set ss m begun ++ Some (n + 1) ∷ []) (es ++ None ∷ [])
     times_step =
@@ -108,7 +103,7 @@ module _ (n : ℕ) (ts : List Shape) (ls : List ℕ) (ss es : List (Option ℕ))
               (λ is. begun_past k (sym (ap (λ z. get_or (slice_set ss m begun) z None) is ∙ get_or-set_same ss m begun None (omega arith)) ∙ e))
               (λ ne. let p = sound.past y k (sym (get_or-set_other ss m y begun None ne) ∙ e) in omega arith)
               (cases_eq y m))
-              (λ e. let q = some_some e in omega arith) (λ y h e. absurd (none_some e)) x;
+              (λ e. let q = same_Some _ _ e in omega arith) (λ y h e. absurd (none-some _ e)) x;
           forward = λ x k z.
               seen_cases (slice_set ss m begun) (Some (n + 1)) None (λ y o. o ≡ Some k → slice_index_or (es ++ None ∷ []) y None ≡ Some z → k ≤ z)
               (λ y h e d.
@@ -117,8 +112,8 @@ module _ (n : ℕ) (ts : List Shape) (ls : List ℕ) (ss es : List (Option ℕ))
               (λ is. absurd (false≢true (sym m_open ∙ ap is_some (ap (λ w. get_or es w None) (sym is) ∙ same))))
               (λ ne. sound.forward y k z (sym (get_or-set_other ss m y begun None ne) ∙ e) same)
               (cases_eq y m))
-              (λ e d. absurd (none_some (sym (get_or_push es None None (length (slice_set ss m begun)) (sized-e ∙ sym (long ∙ sized-s))) ∙ d)))
-              (λ y h e d. absurd (none_some e)) x;
+              (λ e d. absurd (none-some _ (sym (get_or_push es None None (length (slice_set ss m begun)) (sized-e ∙ sym (long ∙ sized-s))) ∙ d)))
+              (λ y h e d. absurd (none-some _ e)) x;
           started = λ x h e.
               ⊎_elim
               (λ is.
@@ -167,7 +162,7 @@ pub times_dead : (n : ℕ) (ts : List Shape) (ls after : List ℕ) (ss es es' : 
 times_dead n ts ls after ss es es' sound ended over = record {
   past = λ y k e. let p = sound.past y k e in omega arith;
   forward = λ x k z e d.
-      ⊎_elim (λ same. sound.forward x k z e (sym same ∙ d)) (λ new. let p = sound.past x k e in let q = some_some (sym new.1 ∙ d) in omega arith) (ended x);
+      ⊎_elim (λ same. sound.forward x k z e (sym same ∙ d)) (λ new. let p = sound.past x k e in let q = same_Some _ _ (sym new.1 ∙ d) in omega arith) (ended x);
   started = sound.started;
   over = over;
 }

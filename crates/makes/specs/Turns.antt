@@ -13,6 +13,7 @@ use Rattle.makes.specs.Machine.{Build, turned_make, declared, rows_of, slots_fro
 use Rattle.makes.specs.Places.{make, target, step, make_sort, stand_sort, is_make, ordinal_of, targets_of, start_of, end_of, kind_declared, with_kind, no_place, place_at, kind_at, Shape, shape, shapes, shape_at, counts, lives, starts, ends, birth_at, all_declared, row_in}
 use Rattle.makes.specs.Sound.{SoundTree, SoundTimes, SoundBirths, SoundSlots, Sound, TargetOf}
 use Rattle.makes.specs.Entries.{neither_stands}
+use Rattle.makes.specs.Rows.{joined_row}
 use Rattle.makes.specs.Joins.{rows_more, needs_old}
 use Rattle.makes.specs.Judging.{sort_is, row_is}
 use Rattle.makes.specs.Sorts.{declared_shape, declared_targets, declared_start, declared_end}
@@ -24,22 +25,22 @@ use Rattle.makes.specs.Times.{times_place}
 use Rattle.makes.specs.Walks.{map_set_same}
 
 make_step : make ≡ step → ⊥
-make_step e = let z : ◌≡◌ {A = ℕ} 0 1 = cc in omega arith
+make_step e = cc
 
 make_target : make ≡ target → ⊥
-make_target e = let z : ◌≡◌ {A = ℕ} 0 1 = cc in omega arith
+make_target e = cc
 
 target_step : target ≡ step → ⊥
-target_step e = let z : ◌≡◌ {A = ℕ} 0 1 = cc in omega arith
+target_step e = cc
 
 target_make : target ≡ make → ⊥
-target_make e = let z : ◌≡◌ {A = ℕ} 0 1 = cc in omega arith
+target_make e = cc
 
 -- The birth i turns into a make.
 module _ (s : Build) (sound : Sound s) (more : s.number + 1 ≤ last_number) (i : ℕ) (in_table : i < length s.births) (alive : (birth_at s.births i).live ≡ true)
-    (no_make : is_make (kind_at s.places (birth_at s.births i).home) ≡ false) (shallow : (place_at s.places (birth_at s.births i).home).depth < 16) (room : s.makes < s.room.makes) where
+    (no_make : is_make (kind_at s.places (birth_at s.births i).at) ≡ false) (shallow : (place_at s.places (birth_at s.births i).at).depth < 16) (room : s.makes < s.room.makes) where
   abbrev new_make : Place
-  new_make = record { parent = (birth_at s.births i).home; depth = (place_at s.places (birth_at s.births i).home).depth + 1; live = 1; kind = Make Unstarted s.makes 0 }
+  new_make = record { parent = (birth_at s.births i).at; depth = (place_at s.places (birth_at s.births i).at).depth + 1; live = 1; kind = Make (record { status = Unstarted; ordinal = s.makes; targets = 0 }) }
 
   size : length (shapes s.places) ≡ length s.places
   size = length-map s.places shape
@@ -59,11 +60,11 @@ module _ (s : Build) (sound : Sound s) (more : s.number + 1 ≤ last_number) (i 
   on_ends : ends (s.places ++ new_make ∷ []) ≡ ends s.places ++ None ∷ []
   on_ends = map_push (λ (y : Place). end_of y.kind) s.places new_make
 
-  home_in_tree : (birth_at s.births i).home < length (shapes s.places)
+  home_in_tree : (birth_at s.births i).at < length (shapes s.places)
   home_in_tree = sound.births.housed i in_table
 
-  fits : stand_sort (shape_at (shapes s.places) (birth_at s.births i).home).sort ≡ true
-  fits = neither_stands _ (ap make_sort (sort_is s sound (birth_at s.births i).home) ∙ no_make) (sound.births.homely i in_table)
+  fits : stand_sort (shape_at (shapes s.places) (birth_at s.births i).at).sort ≡ true
+  fits = neither_stands _ (ap make_sort (sort_is s sound (birth_at s.births i).at) ∙ no_make) (sound.births.homely i in_table)
 
   sized : {Y : Type 0} (g : Place → Y) → length (map g s.places) ≡ length (shapes s.places)
   sized g = length-map s.places g ∙ sym size
@@ -72,9 +73,9 @@ module _ (s : Build) (sound : Sound s) (more : s.number + 1 ≤ last_number) (i 
   turned_sound =
       let ts = shapes s.places in
       let t = shape new_make in
-      let d = ap (λ (z : Shape). z.depth) (shape_is s.places (birth_at s.births i).home) in
+      let d = ap (λ (z : Shape). z.depth) (shape_is s.places (birth_at s.births i).at) in
       let lp = length_push s.places new_make in
-      let lb = length-set s.births i (record { process = (birth_at s.births i).process; home = length s.places; live = (birth_at s.births i).live }) in
+      let lb = length-set s.births i (record { process = (birth_at s.births i).process; at = length s.places; live = (birth_at s.births i).live }) in
       let rb = sound.room.births in
       let rp = sound.room.places in
       record {
@@ -90,14 +91,14 @@ module _ (s : Build) (sound : Sound s) (more : s.number + 1 ≤ last_number) (i 
         births =
             subst (λ zs. SoundBirths (turned_make s i).births zs (lives (s.places ++ new_make ∷ []))) (sym on_shapes)
             (subst (λ zs. SoundBirths (turned_make s i).births (ts ++ t ∷ []) zs) (sym on_lives)
-            (subst (λ z. SoundBirths (slice_set s.births i (record { process = (birth_at s.births i).process; home = z; live = (birth_at s.births i).live })) (ts ++ t ∷ []) (lives s.places ++ 1 ∷ [])) size
+            (subst (λ z. SoundBirths (slice_set s.births i (record { process = (birth_at s.births i).process; at = z; live = (birth_at s.births i).live })) (ts ++ t ∷ []) (lives s.places ++ 1 ∷ [])) size
             (births_make ts t s.births (lives s.places) sound.tree.earlier home_in_tree sound.births i in_table alive refl refl (sized (λ (y : Place). y.live)))));
         rows = sound.rows;
         slots =
-            subst (λ zs. SoundSlots zs (counts (s.places ++ new_make ∷ [])) (s.makes + 1) s.targets s.room.targets s.slots) (sym on_shapes)
-            (subst (λ zs. SoundSlots (ts ++ t ∷ []) zs (s.makes + 1) s.targets s.room.targets s.slots) (sym on_counts)
-            (slots_place ts t (counts s.places) s.makes s.targets s.room.targets s.slots sound.slots (sized (λ (y : Place). targets_of y.kind))
-            (s.makes + 1) s.targets (omega arith) (omega arith) (λ e. absurd (make_target e)) (λ e. (refl, omega arith))));
+            subst (λ zs. SoundSlots zs (counts (s.places ++ new_make ∷ [])) (s.makes + 1) (length s.rows) s.room.targets s.slots) (sym on_shapes)
+            (subst (λ zs. SoundSlots (ts ++ t ∷ []) zs (s.makes + 1) (length s.rows) s.room.targets s.slots) (sym on_counts)
+            (slots_place ts t (counts s.places) s.makes (length s.rows) s.room.targets s.slots sound.slots (sized (λ (y : Place). targets_of y.kind))
+            (s.makes + 1) (length s.rows) (omega arith) (omega arith) (λ e. absurd (make_target e)) (λ e. (refl, omega arith))));
         room = record {
           births = omega arith;
           makes = omega arith;
@@ -127,9 +128,9 @@ module _ (s : Build) (sound : Sound s) (more : s.number + 1 ≤ last_number) (i 
 
 -- A new target of the make m.
 module _ (s : Build) (sound : Sound s) (more : s.number + 1 ≤ last_number) (m : ℕ) (ks : List ℕ) (m_within : m < length s.places) (makes : is_make (kind_at s.places m) ≡ true)
-    (all : all_declared (targets_of (kind_at s.places m)) ks ≡ true) (room : s.targets < s.room.targets) where
+    (all : all_declared (targets_of (kind_at s.places m)) ks ≡ true) (room : length s.rows < s.room.targets) where
   abbrev new_target : Place
-  new_target = record { parent = m; depth = (place_at s.places m).depth; live = 0; kind = Target s.targets }
+  new_target = record { parent = m; depth = (place_at s.places m).depth; live = 0; kind = Target (length s.rows) }
 
   abbrev grown : Place
   grown = with_kind (place_at s.places m) (kind_declared (kind_at s.places m))
@@ -196,10 +197,10 @@ module _ (s : Build) (sound : Sound s) (more : s.number + 1 ≤ last_number) (m 
       (t_sized (λ (y : Place). y.live)) (t_sized (λ (y : Place). start_of y.kind)) (t_sized (λ (y : Place). end_of y.kind)) target_step (λ e. absurd (false≢true e))
 
   -- the slot of the new target
-  place_slots : SoundSlots (shapes s.places ++ shape new_target ∷ []) (counts s.places ++ 0 ∷ []) s.makes (s.targets + 1) s.room.targets s.slots
+  place_slots : SoundSlots (shapes s.places ++ shape new_target ∷ []) (counts s.places ++ 0 ∷ []) s.makes (length s.rows + 1) s.room.targets s.slots
   place_slots =
-      slots_place (shapes s.places) (shape new_target) (counts s.places) s.makes s.targets s.room.targets s.slots sound.slots (t_sized (λ (y : Place). targets_of y.kind))
-      s.makes (s.targets + 1) (omega arith) (omega arith) (λ e. omega arith) (λ e. absurd (target_make e))
+      slots_place (shapes s.places) (shape new_target) (counts s.places) s.makes (length s.rows) s.room.targets s.slots sound.slots (t_sized (λ (y : Place). targets_of y.kind))
+      s.makes (length s.rows + 1) (omega arith) (omega arith) (λ e. omega arith) (λ e. absurd (target_make e))
 
   ordinal_same : (shape_at (shapes s.places ++ shape new_target ∷ []) m).ordinal ≡ ordinal_of (kind_at s.places m)
   ordinal_same = ap (λ (z : Shape). z.ordinal) (shape_old (shapes s.places) (shape new_target) m in_tree ∙ shape_is s.places m)
@@ -227,7 +228,7 @@ module _ (s : Build) (sound : Sound s) (more : s.number + 1 ≤ last_number) (m 
         parent = ap (λ (y : Shape). y.parent) e;
       }
 
-  slots_on : SoundSlots (shapes s.places ++ shape new_target ∷ []) (slice_set (counts s.places ++ 0 ∷ []) m (slice_index (counts s.places ++ 0 ∷ []) m + 1)) s.makes (s.targets + 1) s.room.targets
+  slots_on : SoundSlots (shapes s.places ++ shape new_target ∷ []) (slice_set (counts s.places ++ 0 ∷ []) m (slice_index (counts s.places ++ 0 ∷ []) m + 1)) s.makes (length s.rows + 1) s.room.targets
       (slice_set s.slots ((shape_at (shapes s.places ++ shape new_target ∷ []) m).ordinal * s.room.targets + slice_index (counts s.places ++ 0 ∷ []) m) (length s.places))
   slots_on =
       let lt = length_push (shapes s.places) (shape new_target) in
@@ -236,11 +237,11 @@ module _ (s : Build) (sound : Sound s) (more : s.number + 1 ≤ last_number) (m 
       let z = t_size in
       let f = sound.slots.few m in
       let c = count_same in
-      slots_target (shapes s.places ++ shape new_target ∷ []) (counts s.places ++ 0 ∷ []) s.makes (s.targets + 1) s.room.targets s.slots place_slots m (length s.places)
+      slots_target (shapes s.places ++ shape new_target ∷ []) (counts s.places ++ 0 ∷ []) s.makes (length s.rows + 1) s.room.targets s.slots place_slots m (length s.places)
       (omega arith) (omega arith) (ap (λ (y : Shape). y.sort) (shape_old (shapes s.places) (shape new_target) m in_tree) ∙ m_make) (omega arith) (omega arith) slot_within own_target
 
   -- the prerequisites are earlier targets
-  row_below : (k : ℕ) → 1 ≤ k → k ≤ targets_of (kind_at s.places m) → row_in s.places s.slots (slots_from s m) k < s.targets
+  row_below : (k : ℕ) → 1 ≤ k → k ≤ targets_of (kind_at s.places m) → row_in s.places s.slots (slots_from s m) k < length s.rows
   row_below k low high =
       let c = count_is s.places m in
       let t = subst (λ o. TargetOf (shapes s.places) m (slice_index s.slots (o * s.room.targets + (k - 1)))) (ap (λ (y : Shape). y.ordinal) (shape_is s.places m))
@@ -249,7 +250,7 @@ module _ (s : Build) (sound : Sound s) (more : s.number + 1 ≤ last_number) (m 
       let e = row_is s sound (slice_index s.slots (slots_from s m + (k - 1))) in
       omega arith
 
-  rows_below : (js : List ℕ) → all_declared (targets_of (kind_at s.places m)) js ≡ true → AllByRecursion (λ u. u < s.targets) (rows_of s m js)
+  rows_below : (js : List ℕ) → all_declared (targets_of (kind_at s.places m)) js ≡ true → AllByRecursion (λ u. u < length s.rows) (rows_of s m js)
   rows_below [] e = tt
   rows_below (j ∷ js) e =
       let p = and_parts (nat_le 1 j && nat_le j (targets_of (kind_at s.places m))) _ e in
@@ -260,6 +261,7 @@ module _ (s : Build) (sound : Sound s) (more : s.number + 1 ≤ last_number) (m 
   declared_sound =
       let lp = length_push (slice_set s.places m grown) new_target ∙ ap (λ n. n + 1) (length-set s.places m grown) in
       let lslot = length-set s.slots (slots_from s m + targets_of (kind_at s.places m)) (length s.places) in
+      let lr = length_push s.rows (joined_row s.rows (rows_of s m ks)) in
       let rp = sound.room.places in
       let rt = sound.room.most_targets in
       record {
@@ -274,11 +276,12 @@ module _ (s : Build) (sound : Sound s) (more : s.number + 1 ≤ last_number) (m 
             subst (λ zs. SoundBirths s.births zs (lives after)) (sym t_shapes)
             (subst (λ zs. SoundBirths s.births (shapes s.places ++ shape new_target ∷ []) zs) (sym t_lives)
             (births_place (shapes s.places) (shape new_target) s.births (lives s.places) sound.tree.earlier in_tree sound.births (t_sized (λ (y : Place). y.live))));
-        rows = rows_more s.targets s.rows (rows_of s m ks) (omega arith) sound.rows (rows_below ks all);
+        rows = rows_more s.rows (rows_of s m ks) (omega arith) sound.rows (rows_below ks all);
         slots =
-            subst (λ zs. SoundSlots zs (counts after) s.makes (s.targets + 1) s.room.targets (declared s m ks).slots) (sym t_shapes)
-            (subst (λ zs. SoundSlots (shapes s.places ++ shape new_target ∷ []) zs s.makes (s.targets + 1) s.room.targets (declared s m ks).slots) (sym t_counts)
-            (subst (λ z. SoundSlots (shapes s.places ++ shape new_target ∷ []) (slice_set (counts s.places ++ 0 ∷ []) m (slice_index (counts s.places ++ 0 ∷ []) m + 1)) s.makes (s.targets + 1) s.room.targets (slice_set s.slots z (length s.places))) slot_is slots_on));
+            subst (λ n. SoundSlots (shapes after) (counts after) s.makes n s.room.targets (declared s m ks).slots) (sym lr)
+            (subst (λ zs. SoundSlots zs (counts after) s.makes (length s.rows + 1) s.room.targets (declared s m ks).slots) (sym t_shapes)
+            (subst (λ zs. SoundSlots (shapes s.places ++ shape new_target ∷ []) zs s.makes (length s.rows + 1) s.room.targets (declared s m ks).slots) (sym t_counts)
+            (subst (λ z. SoundSlots (shapes s.places ++ shape new_target ∷ []) (slice_set (counts s.places ++ 0 ∷ []) m (slice_index (counts s.places ++ 0 ∷ []) m + 1)) s.makes (length s.rows + 1) s.room.targets (slice_set s.slots z (length s.places))) slot_is slots_on)));
         room = record {
           births = sound.room.births;
           makes = sound.room.makes;
@@ -303,5 +306,5 @@ module _ (s : Build) (sound : Sound s) (more : s.number + 1 ≤ last_number) (m 
         shape = λ x h. ap (λ ts. shape_at ts x) t_shapes ∙ shape_old (shapes s.places) (shape new_target) x (omega arith);
         starts = λ x k h e. ap (λ ss. slice_index_or ss x None) t_starts ∙ get_or_append_left (starts s.places) (None ∷ []) None x (omega arith) ∙ e;
         ends = λ x h. inl (ap (λ es. slice_index_or es x None) t_ends ∙ get_or_append_left (ends s.places) (None ∷ []) None x (omega arith));
-        needs = λ r u h j. needs_old s.rows (rows_of s m ks) s.targets sound.rows.whole r u h j;
+        needs = λ r u h j. needs_old s.rows (rows_of s m ks) r u h;
       }

@@ -5,7 +5,7 @@ use Rattle.std.proofs.lemmas.List.{length-set, get_or-set_other}
 use Rattle.makes.specs.declared.places.Kind.{Kind}
 use Rattle.makes.specs.declared.places.Kind.TheVariants.{Session, Make, Target, Step}
 use Rattle.makes.specs.declared.places.Place.{Place}
-use Rattle.makes.specs.Places.{kind_closed, with_kind, one_less, no_place, place_at, shape, shapes, parents_of, parents, changed}
+use Rattle.makes.specs.Places.{kind_closed, with_kind, one_less, no_place, place_at, shape, parents, changed}
 use Rattle.makes.specs.Tree.{up, Earlier, Holds, itself, under, line, levels, climb_in, climb}
 use Rattle.makes.specs.TreeLemmas.{holds_trans, line_more, length_line, line_some, turn_first, turn_second}
 
@@ -24,7 +24,7 @@ map_set_same g (x ∷ xs) (suc i) y d e = ap (λ zs. g x ∷ zs) (map_set_same g
 -- a place that ends keeps its shape
 closed_shape : (n : ℕ) (p : Place) (k : Kind) → shape (with_kind p (kind_closed n k)) ≡ shape (with_kind p k)
 closed_shape n p Session = refl
-closed_shape n p (Make status ordinal targets) = refl
+closed_shape n p (Make m) = refl
 closed_shape n p (Target row) = refl
 closed_shape n p (Step start end) = refl
 
@@ -35,43 +35,38 @@ less_shape n p = go (p.live - 1 == 0)
     go true = closed_shape n p p.kind
     go false = refl
 
--- A walk from home up has come to x: the tree is as it was, the places from x up are untouched, and what is left to do leads where the whole
--- does.
-pub record Walk (f : Place → Place) (old ps : List Place) (home x : ℕ) : Type 0 where
+-- A walk from home up has come to x, where R says what a change may make of a place: the places from x up are untouched, and, where a change
+-- can only make f of a place, what is left to do leads where the whole does.
+pub record Walk (R : Place → Place → Type 0) (old ps : List Place) (home x : ℕ) : Type 0 where
   pub within : x < length ps
-  pub tree : shapes ps ≡ shapes old
   pub rest : (j : ℕ) → j ≤ x → place_at ps j ≡ place_at old j
-  pub leads : changed f ps (line (parents old) x) ≡ changed f old (line (parents old) home)
+  pub leads : (f : Place → Place) → ((p q : Place) → R p q → q ≡ f p) → changed f ps (line (parents old) x) ≡ changed f old (line (parents old) home)
   pub above : Holds (parents old) x home
 
-pub walk_none : (f : Place → Place) (ps : List Place) (home : ℕ) → home < length ps → Walk f ps ps home home
-walk_none f ps home h = record { within = h; tree = refl; rest = λ j l. refl; leads = refl; above = itself }
+pub walk_none : (R : Place → Place → Type 0) (ps : List Place) (home : ℕ) → home < length ps → Walk R ps ps home home
+walk_none R ps home h = record { within = h; rest = λ j l. refl; leads = λ f only. refl; above = itself }
 
-module _ (f : Place → Place) (keeps : (p : Place) → shape (f p) ≡ shape p) {old ps : List Place} {home x : ℕ} (earlier : Earlier (parents old)) (w : Walk f old ps home x) where
+module _ {R : Place → Place → Type 0} {old ps : List Place} {home x : ℕ} (earlier : Earlier (parents old)) (w : Walk R old ps home x) where
   parent_is : (place_at ps x).parent ≡ up (parents old) x
-  parent_is = sym (up_at ps x) ∙ ap (λ ts. up (parents_of ts) x) w.tree
+  parent_is = ap (λ (p : Place). p.parent) (w.rest x (omega arith)) ∙ sym (up_at old x)
 
   pub walk_less : (x ≢ 0) → (place_at ps x).parent < x
   walk_less ne = let e = earlier x (omega arith) in let p = parent_is in omega arith
 
-  pub walk_more : (q : Place) → q ≡ f (place_at ps x) → (x ≢ 0) → Walk f old (slice_set ps x q) home (place_at ps x).parent
-  walk_more q is ne =
+  pub walk_more : (q : Place) → R (place_at ps x) q → (x ≢ 0) → Walk R old (slice_set ps x q) home (place_at ps x).parent
+  walk_more q made ne =
       let p : 0 < x = omega arith in
       let less = walk_less ne in
       let low = w.within in
       record {
         within = omega (arith, length-set ps x q);
-        tree = map_set_same shape ps x q no_place (ap shape is ∙ keeps (place_at ps x)) ∙ w.tree;
         rest = λ j l. get_or-set_other ps x j q no_place (λ e. omega arith) ∙ w.rest j (omega arith);
-        leads =
-            (λ i. changed f (slice_set ps x (is i)) (line (parents old) (parent_is i)))
+        leads = λ f only.
+            (λ i. changed f (slice_set ps x (only (place_at ps x) q made i)) (line (parents old) (parent_is i)))
             ∙ sym (ap (changed f ps) (line_more (parents old) earlier x p))
-            ∙ w.leads;
+            ∙ w.leads f only;
         above = holds_trans (subst (λ y. Holds (parents old) y x) (sym parent_is) (under p itself)) w.above;
       }
-
-  pub walk_all : (q : Place) → q ≡ f (place_at ps x) → x ≡ 0 → slice_set ps x q ≡ changed f old (line (parents old) home)
-  walk_all q is none = (λ i. changed f (slice_set ps x (is i)) []) ∙ sym (ap (changed f ps) (ap (line (parents old)) none ∙ ap (λ y. y ∷ []) (sym none))) ∙ w.leads
 
 -- The climb in the table: one turn of the first, and of the second.
 pub record Climbed (ps : List Place) (a b x y left right : ℕ) : Type 0 where

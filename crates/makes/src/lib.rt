@@ -1,7 +1,6 @@
 // The make order: processes, makes inside makes, and targets with prerequisites.
 #![tactic(auto)]
 
-mod births;
 mod calls;
 mod climb;
 mod events;
@@ -12,7 +11,7 @@ mod room;
 mod rows;
 mod start;
 mod state;
-mod tables;
+mod tree;
 
 pub use room::Room;
 pub use state::Makes;

@@ -1,45 +1,39 @@
 // Where processes and targets are found in a make order.
-ghost use Rattle.std.specs.Prelude.{◌≡◌, ◌+◌, ◌-◌, ◌<◌, ◌≤◌, length, IfSome};
-ghost use Rattle.makes.specs.Machine.{lives_in, home_of, parent_home as home_of_parent, slots_from, target_at};
+ghost use Rattle.std.specs.Prelude.{◌≡◌, ◌<◌, true, length, IfSome};
+ghost use Rattle.makes.specs.declared.places.Kind.{Kind};
+ghost use Rattle.makes.specs.Machine.{home_of, parent_home as home_of_parent, slots_from, target_at, rows_of, HasTarget};
 ghost use Rattle.makes.specs.Model.{make_model};
-ghost use Rattle.makes.specs.Places.{kind_at, place_at, birth_at, stand as standing};
+ghost use Rattle.makes.specs.Rows.{joined_row};
+ghost use Rattle.makes.specs.Places.{is_make, is_target, kind_at, birth_at, targets_of, row_of, all_declared};
 
-use crate::births::live_birth;
-use crate::places::Kind;
+use crate::places::{Kind, Make};
+use crate::rows::{Row, WORDS, join};
 use crate::state::Makes;
+use births::live_birth;
 
 impl Makes {
-    // Whether a process lives.
-    pub(crate) fn is_live(&self, process: u32) -> bool
-        ensures answer { result ≡ lives_in (make_model self.now) process }
-    {
-        live_birth(&self.births, process).is_some()
-    }
-
     // The home of a birth.
     pub(crate) fn birth_home(&self, i: usize) -> usize
         requires within { i < length self.now.births.items }
-        ensures answer { result ≡ (birth_at self.now.births.items i).home }
-        ensures inside { result < length self.now.places.items }
+        ensures answer { result ≡ (birth_at self.now.births.items i).at }
+        ensures inside { result < length self.now.tree.places.items }
     {
-        self.births[i].home
+        self.births[i].at
     }
 
     // The home of a live process.
     pub(crate) fn home(&self, process: u32) -> Option<usize>
         ensures answer { result ≡ home_of (make_model self.now) process }
-        ensures within { IfSome result (λ h. h < length self.now.places.items) }
+        ensures within { IfSome result (λ h. h < length self.now.tree.places.items) }
     {
-        match live_birth(&self.births, process) {
-            Some(i) => Some(self.birth_home(i)),
-            None => None,
-        }
+        let i = live_birth(&self.births, process)?;
+        Some(self.birth_home(i))
     }
 
     // The home of a parent: the session for parent 0.
     pub(crate) fn parent_home(&self, parent: u32) -> Option<usize>
         ensures answer { result ≡ home_of_parent (make_model self.now) parent }
-        ensures within { IfSome result (λ h. h < length self.now.places.items) }
+        ensures within { IfSome result (λ h. h < length self.now.tree.places.items) }
     {
         if parent == 0 {
             return Some(0);
@@ -47,51 +41,54 @@ impl Makes {
         self.home(parent)
     }
 
-    // What a place is.
-    pub(crate) fn kind(&self, place: usize) -> Kind
-        requires within { place < length self.now.places.items }
-        ensures answer { result ≡ kind_at self.now.places.items place }
+    // The make at a place.
+    pub(crate) fn make_at(&self, place: usize) -> Make
+        requires made { is_make (kind_at self.now.tree.places.items place) ≡ true }
+        ensures answer { kind_at self.now.tree.places.items place ≡ Kind.Make result }
     {
-        self.places[place].kind
+        let Kind::Make(make) = self.tree.kind(place) else {
+            unreachable!()
+        };
+        make
     }
 
-    // How many makes hold a place.
-    pub(crate) fn depth(&self, place: usize) -> usize
-        requires within { place < length self.now.places.items }
-        ensures answer { result ≡ (place_at self.now.places.items place).depth }
-        ensures few { result ≤ 16 }
+    // The row of the target at a place.
+    fn row_at(&self, place: usize) -> usize
+        requires target { is_target (kind_at self.now.tree.places.items place) ≡ true }
+        ensures answer { result ≡ row_of (kind_at self.now.tree.places.items place) }
     {
-        self.places[place].depth
-    }
-
-    // Where a process with this home stands.
-    pub(crate) fn stand(&self, home: usize) -> usize
-        requires within { home < length self.now.places.items }
-        ensures answer { result ≡ standing self.now.places.items home }
-    {
-        let place = self.places[home];
-        if place.kind.is_make() {
-            place.parent
-        } else {
-            home
-        }
+        let Kind::Target { row } = self.tree.kind(place) else {
+            unreachable!()
+        };
+        row
     }
 
     // Where the places of a make's targets are kept.
     pub(crate) fn first_slot(&self, make: usize) -> usize
-        requires within { make < length self.now.places.items }
+        requires made { is_make (kind_at self.now.tree.places.items make) ≡ true }
         ensures answer { result ≡ slots_from (make_model self.now) make }
     {
-        self.kind(make).ordinal() * self.room.targets
+        self.make_at(make).ordinal * self.room.targets
     }
 
     // The place of a make's target, by its number from 1.
     pub(crate) fn target_place(&self, make: usize, target: u16) -> usize
-        requires within { make < length self.now.places.items }
-        requires one { 0 < target }
-        requires slot { slots_from (make_model self.now) make + (target - 1) < length self.now.slots.items }
+        requires declared { HasTarget (make_model self.now) make target }
         ensures answer { result ≡ target_at (make_model self.now) make target }
     {
         self.slots[self.first_slot(make) + (target as usize - 1)]
+    }
+
+    // The row of a new target of a make: its prerequisites, and all that these need.
+    pub(crate) fn joined_row(&self, make: usize, prerequisites: &[u16]) -> Row
+        requires all { all_declared (targets_of (kind_at self.now.tree.places.items make)) prerequisites.now ≡ true }
+        ensures answer { result ≡ joined_row self.now.rows.items (rows_of (make_model self.now) make prerequisites.now) }
+    {
+        let mut row = [0; WORDS];
+        for number in prerequisites {
+            let place = self.target_place(make, *number);
+            join(&mut row, &self.rows, self.row_at(place));
+        }
+        row
     }
 }

@@ -1,10 +1,11 @@
 // The places of a session, as a tree: below the session and below a step stand makes, below a make its targets, below a target its steps.
 // A place's number is its index in the table, where it comes after the place that it stands below.
-ghost use Rattle.std.specs.Prelude.{◌≡◌, ◌<◌, ◌≤◌};
-ghost use Rattle.makes.specs.Places.{status_start, status_end, begun as status_begun, closed as status_closed, is_make, is_stand, ordinal_of, targets_of, row_of, start_of, end_of, kind_begun, kind_declared, kind_closed, with_kind, one_more, one_less};
+ghost use Rattle.std.specs.Prelude.{◌≡◌, ◌<◌, ◌≤◌, Some};
+ghost use Rattle.makes.specs.Machine.{ends_before};
+ghost use Rattle.makes.specs.Places.{status_start, status_end, begun as status_begun, closed as status_closed, is_make, is_stand, targets_of, start_of, end_of, kind_begun, kind_declared, kind_closed, one_more, one_less};
 
 // How far a make has come, with the numbers at which it started and ended.
-#[derive(Clone, Copy)]
+#[derive(Clone, Copy, Debug, PartialEq, Eq)]
 pub enum Status {
     Unstarted,
     Running { since: u32 },
@@ -12,22 +13,23 @@ pub enum Status {
 }
 
 impl Status {
-    fn start(self) -> Option<u32>
-        ensures answer { result ≡ status_start self }
+    fn span(self) -> Span
+        ensures start { result.start ≡ status_start self }
+        ensures end { result.end ≡ status_end self }
     {
         match self {
-            Status::Unstarted => None,
-            Status::Running { since } => Some(since),
-            Status::Ended { started, .. } => started,
-        }
-    }
-
-    fn end(self) -> Option<u32>
-        ensures answer { result ≡ status_end self }
-    {
-        match self {
-            Status::Ended { at, .. } => Some(at),
-            _ => None,
+            Status::Unstarted => Span {
+                start: None,
+                end: None,
+            },
+            Status::Running { since } => Span {
+                start: Some(since),
+                end: None,
+            },
+            Status::Ended { started, at } => Span {
+                start: started,
+                end: Some(at),
+            },
         }
     }
 
@@ -37,7 +39,7 @@ impl Status {
     {
         match self {
             Status::Unstarted => Status::Running { since: number },
-            other => other,
+            Status::Running { .. } | Status::Ended { .. } => self,
         }
     }
 
@@ -46,41 +48,66 @@ impl Status {
         ensures answer { result ≡ status_closed number self }
     {
         match self {
-            Status::Ended { .. } => self,
-            _ => Status::Ended {
-                started: self.start(),
+            Status::Unstarted | Status::Running { .. } => Status::Ended {
+                started: self.span().start,
                 at: number,
             },
+            Status::Ended { .. } => self,
         }
     }
 }
 
+// When a make or a step started and ended, as far as it has.
+#[derive(Clone, Copy, Debug, PartialEq, Eq)]
+pub struct Span {
+    pub start: Option<u32>,
+    pub end: Option<u32>,
+}
+
+impl Span {
+    // Both at the number.
+    pub fn at(number: u32) -> Span
+        ensures start { result.start ≡ Some number }
+        ensures end { result.end ≡ Some number }
+    {
+        Span {
+            start: Some(number),
+            end: Some(number),
+        }
+    }
+
+    // Whether the end has come, and is below the start of the other.
+    pub fn ends_before(self, later: Span) -> bool
+        ensures answer { result ≡ ends_before self.end later.start }
+    {
+        matches!((self.end, later.start), (Some(end), Some(start)) if end < start)
+    }
+}
+
+// A make: how far it has come, which one it is, from 0 in the order of their making, and how many targets it has declared.
+#[derive(Clone, Copy, Debug, PartialEq, Eq)]
+pub struct Make {
+    pub status: Status,
+    pub ordinal: usize,
+    pub targets: usize,
+}
+
 // What a place is.
-#[derive(Clone, Copy)]
+#[derive(Clone, Copy, Debug, PartialEq, Eq)]
 pub enum Kind {
     Session,
-    // A make: which one it is, from 0 in the order of their making, and how many targets it has declared.
-    Make {
-        status: Status,
-        ordinal: usize,
-        targets: usize,
-    },
+    Make(Make),
     // A target: its row in the table of prerequisites.
-    Target {
-        row: usize,
-    },
+    Target { row: usize },
     // A step: the numbers at which it started and, once it has ended, ended.
-    Step {
-        start: u32,
-        end: Option<u32>,
-    },
+    Step { start: u32, end: Option<u32> },
 }
 
 impl Kind {
     pub fn is_make(self) -> bool
         ensures answer { result ≡ is_make self }
     {
-        matches!(self, Kind::Make { .. })
+        matches!(self, Kind::Make(_))
     }
 
     // Whether processes stand here: the session or a step.
@@ -90,50 +117,20 @@ impl Kind {
         matches!(self, Kind::Session | Kind::Step { .. })
     }
 
-    pub fn ordinal(self) -> usize
-        ensures answer { result ≡ ordinal_of self }
+    pub fn span(self) -> Span
+        ensures start { result.start ≡ start_of self }
+        ensures end { result.end ≡ end_of self }
     {
         match self {
-            Kind::Make { ordinal, .. } => ordinal,
-            _ => 0,
-        }
-    }
-
-    pub fn targets(self) -> usize
-        ensures answer { result ≡ targets_of self }
-    {
-        match self {
-            Kind::Make { targets, .. } => targets,
-            _ => 0,
-        }
-    }
-
-    pub fn row(self) -> usize
-        ensures answer { result ≡ row_of self }
-    {
-        match self {
-            Kind::Target { row } => row,
-            _ => 0,
-        }
-    }
-
-    pub fn start(self) -> Option<u32>
-        ensures answer { result ≡ start_of self }
-    {
-        match self {
-            Kind::Make { status, .. } => status.start(),
-            Kind::Step { start, .. } => Some(start),
-            _ => None,
-        }
-    }
-
-    pub fn end(self) -> Option<u32>
-        ensures answer { result ≡ end_of self }
-    {
-        match self {
-            Kind::Make { status, .. } => status.end(),
-            Kind::Step { end, .. } => end,
-            _ => None,
+            Kind::Make(make) => make.status.span(),
+            Kind::Step { start, end } => Span {
+                start: Some(start),
+                end,
+            },
+            Kind::Session | Kind::Target { .. } => Span {
+                start: None,
+                end: None,
+            },
         }
     }
 
@@ -142,15 +139,10 @@ impl Kind {
         ensures answer { result ≡ kind_begun number self }
     {
         match self {
-            Kind::Make {
-                status,
-                ordinal,
-                targets,
-            } => Kind::Make {
-                status: status.begun(number),
-                ordinal,
-                targets,
-            },
+            Kind::Make(make) => Kind::Make(Make {
+                status: make.status.begun(number),
+                ..make
+            }),
             other => other,
         }
     }
@@ -161,15 +153,10 @@ impl Kind {
         ensures answer { result ≡ kind_declared self }
     {
         match self {
-            Kind::Make {
-                status,
-                ordinal,
-                targets,
-            } => Kind::Make {
-                status,
-                ordinal,
-                targets: targets + 1,
-            },
+            Kind::Make(make) => Kind::Make(Make {
+                targets: make.targets + 1,
+                ..make
+            }),
             other => other,
         }
     }
@@ -179,27 +166,22 @@ impl Kind {
         ensures answer { result ≡ kind_closed number self }
     {
         match self {
-            Kind::Make {
-                status,
-                ordinal,
-                targets,
-            } => Kind::Make {
-                status: status.closed(number),
-                ordinal,
-                targets,
-            },
-            Kind::Step { start, end: None } => Kind::Step {
+            Kind::Make(make) => Kind::Make(Make {
+                status: make.status.closed(number),
+                ..make
+            }),
+            Kind::Step { start, end } => Kind::Step {
                 start,
-                end: Some(number),
+                end: end.or(Some(number)),
             },
-            other => other,
+            Kind::Session | Kind::Target { .. } => self,
         }
     }
 }
 
-#[derive(Clone, Copy)]
+#[derive(Clone, Copy, Debug, PartialEq, Eq)]
 pub struct Place {
-    // the place right above; the session's is 0 and means nothing
+    // the place right above; the session's is the session itself
     pub parent: usize,
     // how many makes hold this place
     pub depth: usize,
@@ -209,27 +191,14 @@ pub struct Place {
 }
 
 impl Place {
-    pub fn with_kind(self, kind: Kind) -> Place
-        ensures answer { result ≡ with_kind self kind }
-    {
-        Place {
-            parent: self.parent,
-            depth: self.depth,
-            live: self.live,
-            kind,
-        }
-    }
-
     // One live process more.
     pub fn one_more(self) -> Place
         requires few { self.live ≤ 4096 }
         ensures answer { result ≡ one_more self }
     {
         Place {
-            parent: self.parent,
-            depth: self.depth,
             live: self.live + 1,
-            kind: self.kind,
+            ..self
         }
     }
 
@@ -244,11 +213,6 @@ impl Place {
         } else {
             self.kind
         };
-        Place {
-            parent: self.parent,
-            depth: self.depth,
-            live,
-            kind,
-        }
+        Place { live, kind, ..self }
     }
 }

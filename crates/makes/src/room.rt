@@ -2,19 +2,19 @@
 ghost use Rattle.std.specs.Prelude.{◌≡◌};
 ghost use Rattle.makes.specs.Machine.{capped as limited};
 
-// The most that there is room for.
-const MOST_BIRTHS: usize = 4_096;
-
-const MOST_MAKES: usize = 64;
-
-const MOST_TARGETS: usize = 512;
-
-#[derive(Clone, Copy)]
+#[derive(Clone, Copy, Debug, PartialEq, Eq)]
 pub struct Room {
     pub births: usize,
     pub makes: usize,
     pub targets: usize,
 }
+
+// The most that there is room for.
+const MOST: Room = Room {
+    births: 4_096,
+    makes: 64,
+    targets: 512,
+};
 
 impl Room {
     // Room over a limit counts as the limit.
@@ -22,9 +22,9 @@ impl Room {
         ensures answer { result ≡ limited self }
     {
         Room {
-            births: self.births.min(MOST_BIRTHS),
-            makes: self.makes.min(MOST_MAKES),
-            targets: self.targets.min(MOST_TARGETS),
+            births: self.births.min(MOST.births),
+            makes: self.makes.min(MOST.makes),
+            targets: self.targets.min(MOST.targets),
         }
     }
 }

@@ -4,10 +4,9 @@ ghost use Rattle.makes.specs.Machine.{start};
 ghost use Rattle.makes.specs.Model.{make_model};
 ghost use Rattle.makes.specs.Order.{make_machine};
 
-use crate::places::{Kind, Place};
 use crate::room::Room;
-use crate::rows::WORDS;
 use crate::state::Makes;
+use crate::tree::Tree;
 use std::alloc::{AllocError, Global};
 
 impl Makes {
@@ -18,22 +17,15 @@ impl Makes {
     {
         let room = room.capped();
         let births = Vec::with_capacity(heap, room.births)?;
-        let mut places = Vec::with_capacity(heap, 1 + room.births + room.makes + room.targets)?;
-        places.push_reserved(Place {
-            parent: 0,
-            depth: 0,
-            live: 0,
-            kind: Kind::Session,
-        });
+        let tree = Tree::new(heap, 1 + room.births + room.makes + room.targets)?;
         let slots = vec![in heap; 0; room.makes * room.targets]?;
-        let rows = Vec::with_capacity(heap, room.targets * WORDS)?;
+        let rows = Vec::with_capacity(heap, room.targets)?;
         Ok(Makes {
             number: 0,
             room,
             births,
-            places,
+            tree,
             makes: 0,
-            targets: 0,
             slots,
             rows,
         })

@@ -2,7 +2,7 @@
 -- session, and each make, target and step has the next one.
 use Rattle.std.specs.Prelude.{ℕ, zero, suc, true, false, List, [], ◌∷◌, ◌++◌, replicate}
 use Rattle.order.specs.Events.{birth, make, target, death, post, await}
-use Rattle.makes.specs.declared.births.Birth.{Birth}
+use Rattle.births.specs.declared.Birth.{Birth}
 use Rattle.makes.specs.declared.places.Kind.TheVariants.{Session}
 use Rattle.makes.specs.declared.room.Room.{Room}
 use Rattle.makes.specs.Machine.{Build, start}
@@ -306,14 +306,13 @@ all_targets = record {
 }
 
 -- the session alone, with these births, of which so many live, at this number
-abbrev pub at_session : ℕ → Room → List Birth → ℕ → Build
+abbrev pub at_session : ℕ → Room → List (Birth ℕ) → ℕ → Build
 at_session number left births live = record {
   number = number;
   room = left;
   births = births;
   places = record { parent = 0; depth = 0; live = live; kind = Session } ∷ [];
   makes = 0;
-  targets = 0;
   slots = replicate left.makes 0;
   rows = [];
 }
@@ -322,7 +321,7 @@ at_session number left births live = record {
 abbrev pub last_birth : Row
 last_birth = record {
   order = make_machine;
-  state = at_session 8190 (start (room 5000 1 1)).room (replicate 4095 (record { process = 9; home = 0; live = false })) 0;
+  state = at_session 8190 (start (room 5000 1 1)).room (replicate 4095 (record { process = 9; at = 0; live = false })) 0;
   calls = (tell (birth 9 0 0), taken) ∷ (stamp 9, stamped (at 8192 0)) ∷ (tell (birth 8 9 0), refused 7) ∷ [];
 }
 
@@ -330,7 +329,7 @@ last_birth = record {
 abbrev pub last_stamp : Row
 last_stamp = record {
   order = make_machine;
-  state = at_session 999999 (room 9 9 1) (record { process = 9; home = 0; live = true } ∷ []) 1;
+  state = at_session 999999 (room 9 9 1) (record { process = 9; at = 0; live = true } ∷ []) 1;
   calls =
       (stamp 9, stamped (at 1000000 0))
       ∷ (stamp 9, refused 8)

@@ -21,8 +21,7 @@ pub fn flagged_makes(heap: Global, room: Room) -> Result<Flags<Makes>, AllocErro
     ensures valid { IfOk result (λ s. (flagged make_machine).valid (flag_model make_model s)) }
 {
     let makes = Makes::new(heap, room)?;
-    let order = Flags::new(heap, makes)?;
-    Ok(order)
+    Ok(Flags::new(heap, makes)?)
 }
 
 // How many worked rows there are: the order gives every answer of each.
@@ -37,12 +36,9 @@ pub fn worked_rows() -> usize
 mod tests {
     use super::*;
     use faults::OrderFault;
-    use order::{Event, Order, Timestamp};
+    use order::{Event, Order};
+    use orders_shown::at;
     use std::test::Fail;
-
-    fn at(number: u32, place: u32) -> Timestamp {
-        Timestamp { number, place }
-    }
 
     // 512 targets, each of which needs the one before it, and no more: the last needs the first.
     #[test]

@@ -1,31 +1,28 @@
-use Rattle.std.proofs.Common.{sym, subst, arith, rules}
-use Rattle.makes.specs.Machine.{born_at}
+use Rattle.std.proofs.Common.{◌+◌, length, sym, ◌∙◌, subst, rules, arith}
+use Rattle.std.proofs.lemmas.Bool.{ne_eqb}
+use Rattle.makes.specs.Machine.{settled, stepped}
 use Rattle.makes.specs.Model.{make_model}
 use Rattle.makes.specs.Sound.{Sound}
-use Rattle.makes.proofs.Asked.{declared_slot}
-use Rattle.makes.proofs.Once.{sound_had}
 use Rattle.makes.proofs.Taken.{born_kept, stepped_kept}
 use Rattle.makes.proofs.state.Makes.birth.Goals as goal
+use Rattle.makes.proofs.state.Makes.birth.Goals.{then-target-ne0+in-Make+else-make-target, else-target-ne0}
 
 pub bear-requires : goal.bear-requires
 bear-requires c =
     let s = make_model c.args.self.now in
+    let more = ne_eqb s.number 1000000 (λ e. omega arith) in
     record {
       kept =
-          subst (λ x. Sound (born_at s c.args.process s.places x)) (sym c.stand-place.ensures.answer)
-          (born_kept s (sound_had c.args.self.now.sound) c.args.process c.args.parent c.args.target c.in-Some.home (sym c.in-Some.ensures.answer)
-          (search rules, (search rules, (search rules, (search rules, (search rules, tt))))) c.if-target-eq0.true);
+          subst (λ n. Sound (settled n s c.args.process s.places c.stand-place.result)) (sym c.in_ok-number.ensures.answer.1)
+          (subst (λ x. Sound (settled (s.number + 1) s c.args.process s.places x)) (sym c.stand-place.ensures.answer)
+          (born_kept s c.args.self.now.sound c.args.process c.args.parent c.args.target c.in_ok-home.home (sym c.parent_home.ensures.answer ∙ c.in_ok-home.ensures.ok_part)
+          (search rules, (search rules, (search rules, (search rules, (more, tt))))) c.if-target-eq0.true));
     }
 
-pub bear_step-requires : goal.bear_step-requires
-bear_step-requires c =
+pub bear_step-requires-clause-kept : goal.bear_step-requires-clause-kept
+bear_step-requires-clause-kept c =
     let s = make_model c.args.self.now in
-    let sound = sound_had c.args.self.now.sound in
-    record {
-      within = c.in-Some.ensures.within;
-      one = omega arith;
-      slot = declared_slot s sound c.in-Some.home c.in-Some.ensures.within (search rules) c.args.target (omega arith) (search rules);
-      kept =
-          stepped_kept s sound c.args.process c.args.parent c.args.target c.in-Some.home (sym c.in-Some.ensures.answer)
-          (search rules, (search rules, (search rules, (search rules, (search rules, tt))))) (omega arith);
-    }
+    let more = ne_eqb s.number 1000000 (λ e. omega arith) in
+    subst (λ n. Sound (settled n s c.args.process (stepped n s c.in_ok-home.home c.args.target) (length s.places))) (sym c.in_ok-number.ensures.answer.1)
+    (stepped_kept s c.args.self.now.sound c.args.process c.args.parent c.args.target c.in_ok-home.home (sym c.parent_home.ensures.answer ∙ c.in_ok-home.ensures.ok_part)
+    (search rules, (search rules, (search rules, (search rules, (more, tt))))) (omega arith))
