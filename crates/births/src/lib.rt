@@ -4,7 +4,8 @@
 ghost use Rattle.std.specs.Prelude.{◌≡◌, ◌<◌, reverse, length, IfSome};
 ghost use Rattle.births.specs.Births.{is_live, live_birth};
 
-// A process from its birth on, with where it was born or is now: a stage in one order, a place in another.
+// A process from its birth on, with where it was born or is now: a stage in one order, a place in another. A flag says whether it lives, and
+// no Option holds what stands beside it: both are asked for after the death too.
 #[derive(Clone, Copy, Debug, PartialEq, Eq)]
 pub struct Birth<T> {
     pub process: u32,

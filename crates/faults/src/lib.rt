@@ -88,6 +88,7 @@ impl From<EntryFault> for ReaderFault {
     }
 }
 
+// The library has two types for want of memory, and a `?` goes one step: so there are three of these, of a line each.
 impl From<AllocError> for EntryFault {
     ghost from_gives = { λ _ r. r ≡ NoMemory };
 

@@ -32,7 +32,8 @@ pub struct Timestamp {
     pub place: u32,
 }
 
-// One event of the session, told to any order. Its zeros are those of the log and of the rules, which number a parent and a target so.
+// One event of the session, told to any order. Its zeros are those of the log and of the rules, which number a parent and a target so. A
+// record of a log has cases like these, and others, in a crate that knows no order.
 #[derive(Clone, Copy, Debug, PartialEq, Eq)]
 pub enum Event<'a> {
     // A process is born, with a parent (0 for the session itself) and a target (0 for none).

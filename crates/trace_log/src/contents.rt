@@ -14,7 +14,7 @@ pub struct Placed<'a> {
     pub record: Record<'a>,
 }
 
-// Why a log is refused, and the place of the record that is refused.
+// Why a log is refused, and the place of the record that is refused. No `Placed` of a fault: two words say what each is.
 #[derive(Drop)]
 pub struct Refusal {
     pub place: usize,

@@ -51,20 +51,38 @@ fn target(heap: Global, fields: &[u8]) -> Result<Record<'_>, ReaderFault>
     })
 }
 
-// What an access to an inode begins with: process, device, inode; and the rest.
-fn access(fields: &[u8]) -> Result<(u32, u32, u64, &[u8]), ReaderFault>
-    ensures { MatchResult result (λ a. fields.now ≡ big 4 a.0 ++ (big 4 a.1 ++ (big 8 a.2 ++ a.3.now))) (λ f. (f ≡ BadLength) × (length fields.now < 16)) }
+// What the record of an access to an inode begins with, and the rest.
+#[derive(Clone, Copy)]
+struct Inode<'a> {
+    process: u32,
+    device: u32,
+    inode: u64,
+    rest: &'a [u8],
+}
+
+fn inode_fields(fields: &[u8]) -> Result<Inode<'_>, ReaderFault>
+    ensures { MatchResult result (λ a. fields.now ≡ big 4 a.process ++ (big 4 a.device ++ (big 8 a.inode ++ a.rest.now))) (λ f. (f ≡ BadLength) × (length fields.now < 16)) }
 {
     let (process, rest) = field(fields)?;
     let (device, rest) = field(rest)?;
     let (inode, rest) = field(rest)?;
-    Ok((process, device, inode, rest))
+    Ok(Inode {
+        process,
+        device,
+        inode,
+        rest,
+    })
 }
 
 fn removal(fields: &[u8]) -> Result<Record<'_>, ReaderFault>
     ensures { Parses 85 fields.now result }
 {
-    let (process, device, inode, rest) = access(fields)?;
+    let Inode {
+        process,
+        device,
+        inode,
+        rest,
+    } = inode_fields(fields)?;
     let [last @ (0 | 1), path @ ..] = rest else {
         return Err(ReaderFault::BadLength);
     };
@@ -95,17 +113,17 @@ pub fn parse(heap: Global, letter: u8, fields: &[u8]) -> Result<Record<'_>, Read
         b'M' => last_field(fields).map(|process| Record::Make { process }),
         b'T' => target(heap, fields),
         b'D' => last_field(fields).map(|process| Record::Death { process }),
-        b'R' => access(fields).map(|(process, device, inode, path)| Record::Read {
-            process,
-            device,
-            inode,
-            path,
+        b'R' => inode_fields(fields).map(|a| Record::Read {
+            process: a.process,
+            device: a.device,
+            inode: a.inode,
+            path: a.rest,
         }),
-        b'W' => access(fields).map(|(process, device, inode, path)| Record::Write {
-            process,
-            device,
-            inode,
-            path,
+        b'W' => inode_fields(fields).map(|a| Record::Write {
+            process: a.process,
+            device: a.device,
+            inode: a.inode,
+            path: a.rest,
         }),
         b'K' => field(fields).map(|(process, path)| Record::Exists { process, path }),
         b'U' => removal(fields),

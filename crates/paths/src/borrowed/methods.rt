@@ -42,7 +42,7 @@ impl<'a> Path<'a> {
         Path { bytes }
     }
 
-    // The bytes of the path, which have the form.
+    // The bytes of the path. `form` tells a caller who goes on with the bytes alone what the type told before.
     pub fn as_bytes(self) -> &'a [u8]
         ensures value { result.now ≡ path_bytes self.entry }
         ensures form { wellformed result.now ≡ true }
