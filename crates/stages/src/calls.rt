@@ -117,7 +117,10 @@ impl Order for Stages {
         })
     }
 
-    fn number(&self) -> u32 {
+    fn number(&self) -> u32
+        ensures answer { result ≡ (stages.means self.now).number }
+        ensures valid { stages.valid self.now }
+    {
         self.number
     }
 
