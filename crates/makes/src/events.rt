@@ -1,4 +1,5 @@
-// What the accepted events do to a make order, each at its number.
+// What the accepted events do to a make order, each at its number. Each asks that the state after it is sound, which the law of orders proves
+// of the state that the machine gives: proved here again, it would be proved twice.
 ghost use Rattle.std.specs.Prelude.{◌≡◌, true, length};
 ghost use Rattle.makes.specs.Machine.{settled, stepped, turned, listed, ended, HasTarget};
 ghost use Rattle.makes.specs.Model.{make_model};
@@ -23,7 +24,8 @@ impl Makes {
         self.number = number;
     }
 
-    // A process is born at a new step of a make's target.
+    // A process is born at a new step of a make's target. Not by `bear` after the step: between the two the state is not sound, for a step
+    // without a process has not ended.
     pub(crate) fn bear_step(&mut self, number: u32, process: u32, make: usize, target: u16)
         requires declared { HasTarget (make_model self.old) make target }
         requires kept { Sound (settled number (make_model self.old) process (stepped number (make_model self.old) make target) (length self.old.tree.places.items)) }

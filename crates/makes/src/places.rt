@@ -18,10 +18,7 @@ impl Status {
         ensures end { result.end ≡ status_end self }
     {
         match self {
-            Status::Unstarted => Span {
-                start: None,
-                end: None,
-            },
+            Status::Unstarted => Span::default(),
             Status::Running { since } => Span {
                 start: Some(since),
                 end: None,
@@ -58,7 +55,7 @@ impl Status {
 }
 
 // When a make or a step started and ended, as far as it has.
-#[derive(Clone, Copy, Debug, PartialEq, Eq)]
+#[derive(Clone, Copy, Debug, Default, PartialEq, Eq)]
 pub struct Span {
     pub start: Option<u32>,
     pub end: Option<u32>,
@@ -127,10 +124,7 @@ impl Kind {
                 start: Some(start),
                 end,
             },
-            Kind::Session | Kind::Target { .. } => Span {
-                start: None,
-                end: None,
-            },
+            Kind::Session | Kind::Target { .. } => Span::default(),
         }
     }
 
@@ -181,7 +175,8 @@ impl Kind {
 
 #[derive(Clone, Copy, Debug, PartialEq, Eq)]
 pub struct Place {
-    // the place right above; the session's is the session itself
+    // the place right above; the session's is the session itself, and no None: only a walk that ends there would ask, and it looks at the
+    // place's number
     pub parent: usize,
     // how many makes hold this place
     pub depth: usize,

@@ -3,6 +3,8 @@ ghost use Rattle.std.specs.Prelude.{◌≡◌, ◌<◌, length};
 ghost use Rattle.makes.specs.Places.{all_declared};
 ghost use Rattle.makes.specs.Rows.{with_row, joined, needs as is_needed};
 
+use std::array;
+
 // The words of a row.
 pub const WORDS: usize = 8;
 
@@ -18,13 +20,11 @@ pub fn needs(rows: &[Row], t: usize, u: usize) -> bool
     (rows[t][u / 64] >> (u % 64)) % 2 == 1
 }
 
-// Joins another row. Its words are read by the index, since the contract of `zip` says nothing of what is written through `iter_mut`.
-fn join_row(row: &mut Row, more: &Row)
-    ensures after { row.new ≡ with_row row.old more.now }
+// Two rows joined: the bits of both.
+fn join_rows(row: &Row, more: &Row) -> Row
+    ensures { result ≡ with_row row.now more.now }
 {
-    for (i, word) in row.iter_mut().enumerate() {
-        *word |= more[i];
-    }
+    array::from_fn(|i| row[i] | more[i])
 }
 
 // Puts target u and all that it needs into a row.
@@ -33,7 +33,7 @@ pub fn join(row: &mut Row, rows: &[Row], u: usize)
     requires few { u < 512 }
     ensures after { row.new ≡ joined rows.now row.old u }
 {
-    join_row(row, &rows[u]);
+    *row = join_rows(row, &rows[u]);
     row[u / 64] |= 1 << (u % 64);
 }
 
@@ -43,5 +43,5 @@ pub fn all_declared(numbers: &[u16], targets: usize) -> bool
 {
     numbers
         .iter()
-        .all(|number| *number != 0 && *number as usize <= targets)
+        .all(|number| *number != 0 && usize::from(*number) <= targets)
 }

@@ -20,7 +20,7 @@ pub struct Makes {
     // how many makes there are: a count of its own, since they stand among the other places
     pub(crate) makes: usize,
     // for each make the places of its targets, from its ordinal times the room for targets on: one table of fixed size, since no event
-    // may allocate
+    // may allocate, and a table for each make would be as many to make at the start
     pub(crate) slots: Vec<usize>,
     // for each target the row of those that it needs
     pub(crate) rows: Vec<Row>,

@@ -6,7 +6,8 @@ ghost use Rattle.makes.specs.Sound.{SoundTree};
 use crate::places::{Kind, Make, Place, Status};
 use std::alloc::{AllocError, Global};
 
-// A place is named by its index, which timestamps carry, and the table is of fixed size: so it is a table, and no tree of boxes.
+// A place is named by its index, which timestamps carry, and the table is of fixed size: so it is a table, and no tree of boxes. Methods ask
+// that there is a place of a number, or room for one more: both depend on the table of the moment, so no type can hold them.
 #[derive(Drop)]
 pub struct Tree {
     // the session first, and each other place after the one that it stands below
