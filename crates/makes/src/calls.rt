@@ -3,7 +3,6 @@ ghost use Rattle.std.specs.Prelude.{◌≡◌, ℕ, ◌+◌, ◌<◌, ◌≤◌,
 ghost use Rattle.order.specs.Machine.{Tells, Stamps};
 ghost use Rattle.order.specs.Runs.{Call, Alive};
 ghost use Rattle.makes.specs.Machine.{tell_birth, tell_make, tell_target, tell_death};
-ghost use Rattle.makes.specs.Model.{make_model};
 ghost use Rattle.makes.specs.Order.{make_machine};
 ghost use Rattle.makes.specs.Places.{shapes, parents};
 ghost use Rattle.makes.specs.Runs.{SinceStart, place_in, Known, Before, Orderly};
@@ -24,7 +23,7 @@ const MOST_DEEP: usize = 16;
 impl Makes {
     // A process is born: with its parent, or at a new step of a target of its parent.
     fn birth(&mut self, process: u32, parent: u32, target: u16) -> Result<(), OrderFault>
-        ensures answer { Tells (tell_birth (make_model self.old) process parent target) result (make_model self.old) (make_model self.new) }
+        ensures answer { Tells (tell_birth self.old process parent target) result self.old self.new }
     {
         let home = self.parent_home(parent).ok_or(OrderFault::NotLive)?;
         if process == 0 || self.lives(process) {
@@ -53,7 +52,7 @@ impl Makes {
 
     // A process turns out to be a make.
     fn make(&mut self, process: u32) -> Result<(), OrderFault>
-        ensures answer { Tells (tell_make (make_model self.old) process) result (make_model self.old) (make_model self.new) }
+        ensures answer { Tells (tell_make self.old process) result self.old self.new }
     {
         let i = live_birth(&self.births, process).ok_or(OrderFault::NotLive)?;
         let place = self.tree.place(self.birth_home(i));
@@ -73,7 +72,7 @@ impl Makes {
 
     // A make declares its next target.
     fn target(&mut self, process: u32, prerequisites: &[u16]) -> Result<(), OrderFault>
-        ensures answer { Tells (tell_target (make_model self.old) process prerequisites.now) result (make_model self.old) (make_model self.new) }
+        ensures answer { Tells (tell_target self.old process prerequisites.now) result self.old self.new }
     {
         let home = self.home(process).ok_or(OrderFault::NotLive)?;
         let Kind::Make(make) = self.tree.kind(home) else {
@@ -92,7 +91,7 @@ impl Makes {
 
     // A process ends.
     fn death(&mut self, process: u32) -> Result<(), OrderFault>
-        ensures answer { Tells (tell_death (make_model self.old) process) result (make_model self.old) (make_model self.new) }
+        ensures answer { Tells (tell_death self.old process) result self.old self.new }
     {
         let i = live_birth(&self.births, process).ok_or(OrderFault::NotLive)?;
         let number = next_number(self.number)?;
@@ -104,7 +103,7 @@ impl Makes {
 impl Order for Makes {
     ghost machine = { make_machine };
 
-    ghost model = { make_model };
+    ghost model = { λ s. s };
 
     ghost right = { make_right };
 
@@ -126,8 +125,8 @@ impl Order for Makes {
     }
 
     fn stamp(&mut self, process: u32) -> Result<Timestamp, OrderFault>
-        ensures answer { Stamps (make_machine.stamp (make_model self.old) process) result (make_model self.old) (make_model self.new) }
-        ensures run { (calls : List Call) → SinceStart calls (make_model self.old) → IfOk result (λ k. (k.number ≡ length calls + 1) × (place_in calls process ≡ Some k.place)) }
+        ensures answer { Stamps (make_machine.stamp self.old process) result self.old self.new }
+        ensures run { (calls : List Call) → SinceStart calls self.old → IfOk result (λ k. (k.number ≡ length calls + 1) × (place_in calls process ≡ Some k.place)) }
     {
         let home = self.home(process).ok_or(OrderFault::NotLive)?;
         let number = next_number(self.number)?;
@@ -140,16 +139,16 @@ impl Order for Makes {
     }
 
     fn number(&self) -> u32
-        ensures answer { result ≡ (make_machine.means (make_model self.now)).number }
-        ensures valid { make_machine.valid (make_model self.now) }
-        ensures run { (calls : List Call) → SinceStart calls (make_model self.now) → (result ≡ length calls) × Orderly calls }
+        ensures answer { result ≡ (make_machine.means self.now).number }
+        ensures valid { make_machine.valid self.now }
+        ensures run { (calls : List Call) → SinceStart calls self.now → (result ≡ length calls) × Orderly calls }
     {
         self.number
     }
 
     fn lives(&self, process: u32) -> bool
-        ensures answer { result ≡ (make_machine.means (make_model self.now)).lives process }
-        ensures run { (calls : List Call) → SinceStart calls (make_model self.now) → Decides result (Alive process calls) }
+        ensures answer { result ≡ (make_machine.means self.now).lives process }
+        ensures run { (calls : List Call) → SinceStart calls self.now → Decides result (Alive process calls) }
     {
         live_birth(&self.births, process).is_some()
     }
@@ -160,9 +159,9 @@ impl Order for Makes {
 
     // Whether the number lies from 1 to the present one, and the place is the session or a step.
     fn known(&self, a: Timestamp) -> bool
-        ensures answer { result ≡ (make_machine.means (make_model self.now)).known a }
-        ensures run { (calls : List Call) → SinceStart calls (make_model self.now) → Decides result (Known calls a) }
-        ensures depth { (x : ℕ) → x < length self.now.tree.places.items → (makes_above (shapes self.now.tree.places.items) x ≤ 16) × (levels (parents self.now.tree.places.items) x ≤ 48) }
+        ensures answer { result ≡ (make_machine.means self.now).known a }
+        ensures run { (calls : List Call) → SinceStart calls self.now → Decides result (Known calls a) }
+        ensures depth { (x : ℕ) → x < length self.now.places → (makes_above (shapes self.now.places) x ≤ 16) × (levels (parents self.now.places) x ≤ 48) }
     {
         (1..=self.number).contains(&a.number)
             && (a.place as usize) < self.tree.len()
@@ -171,8 +170,8 @@ impl Order for Makes {
 
     // Whether both are known, the first has the lower number, and where their places meet it is before.
     fn before(&self, a: Timestamp, b: Timestamp) -> bool
-        ensures answer { result ≡ (make_machine.means (make_model self.now)).before a b }
-        ensures run { (calls : List Call) → SinceStart calls (make_model self.now) → Decides result (Before calls a b) }
+        ensures answer { result ≡ (make_machine.means self.now).before a b }
+        ensures run { (calls : List Call) → SinceStart calls self.now → Decides result (Before calls a b) }
     {
         if !self.known(a) || !self.known(b) || a.number >= b.number {
             return false;

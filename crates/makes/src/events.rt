@@ -2,7 +2,6 @@
 // of the state that the machine gives: proved here again, it would be proved twice.
 ghost use Rattle.std.specs.Prelude.{◌≡◌, true, length};
 ghost use Rattle.makes.specs.Machine.{settled, stepped, turned, listed, ended, HasTarget};
-ghost use Rattle.makes.specs.Model.{make_model};
 ghost use Rattle.makes.specs.Places.{is_make, targets_of, kind_at, birth_at, all_declared};
 ghost use Rattle.makes.specs.Sound.{Sound};
 
@@ -12,8 +11,8 @@ use births::Birth;
 impl Makes {
     // A process is born at a place.
     pub(crate) fn bear(&mut self, number: u32, process: u32, place: usize)
-        requires kept { Sound (settled number (make_model self.old) process self.old.tree.places.items place) }
-        ensures after { make_model self.new ≡ settled number (make_model self.old) process self.old.tree.places.items place }
+        requires kept { Sound (settled number self.old process self.old.places place) }
+        ensures after { self.new ≡ settled number self.old process self.old.places place }
     {
         self.births.push_reserved(Birth {
             process,
@@ -27,9 +26,9 @@ impl Makes {
     // A process is born at a new step of a make's target. Not by `bear` after the step: between the two the state is not sound, for a step
     // without a process has not ended.
     pub(crate) fn bear_step(&mut self, number: u32, process: u32, make: usize, target: u16)
-        requires declared { HasTarget (make_model self.old) make target }
-        requires kept { Sound (settled number (make_model self.old) process (stepped number (make_model self.old) make target) (length self.old.tree.places.items)) }
-        ensures after { make_model self.new ≡ settled number (make_model self.old) process (stepped number (make_model self.old) make target) (length self.old.tree.places.items) }
+        requires declared { HasTarget self.old make target }
+        requires kept { Sound (settled number self.old process (stepped number self.old make target) (length self.old.places)) }
+        ensures after { self.new ≡ settled number self.old process (stepped number self.old make target) (length self.old.places) }
     {
         let above = self.target_place(make, target);
         let step = self.tree.len();
@@ -45,9 +44,9 @@ impl Makes {
 
     // The process of a birth turns out to be a make.
     pub(crate) fn turn_make(&mut self, number: u32, i: usize)
-        requires live { (birth_at self.old.births.items i).live ≡ true }
-        requires kept { Sound (turned number (make_model self.old) i) }
-        ensures after { make_model self.new ≡ turned number (make_model self.old) i }
+        requires live { (birth_at self.old.births i).live ≡ true }
+        requires kept { Sound (turned number self.old i) }
+        ensures after { self.new ≡ turned number self.old i }
     {
         let home = self.birth_home(i);
         self.births[i].at = self.tree.len();
@@ -58,10 +57,10 @@ impl Makes {
 
     // A make declares its next target.
     pub(crate) fn declare(&mut self, number: u32, make: usize, prerequisites: &[u16])
-        requires made { is_make (kind_at self.old.tree.places.items make) ≡ true }
-        requires all { all_declared (targets_of (kind_at self.old.tree.places.items make)) prerequisites.now ≡ true }
-        requires kept { Sound (listed number (make_model self.old) make prerequisites.now) }
-        ensures after { make_model self.new ≡ listed number (make_model self.old) make prerequisites.now }
+        requires made { is_make (kind_at self.old.places make) ≡ true }
+        requires all { all_declared (targets_of (kind_at self.old.places make)) prerequisites.now ≡ true }
+        requires kept { Sound (listed number self.old make prerequisites.now) }
+        ensures after { self.new ≡ listed number self.old make prerequisites.now }
     {
         let row = self.joined_row(make, prerequisites);
         let slot = self.first_slot(make) + self.make_at(make).targets;
@@ -73,9 +72,9 @@ impl Makes {
 
     // The process of a birth ends.
     pub(crate) fn end(&mut self, number: u32, i: usize)
-        requires live { (birth_at self.old.births.items i).live ≡ true }
-        requires kept { Sound (ended number (make_model self.old) i) }
-        ensures after { make_model self.new ≡ ended number (make_model self.old) i }
+        requires live { (birth_at self.old.births i).live ≡ true }
+        requires kept { Sound (ended number self.old i) }
+        ensures after { self.new ≡ ended number self.old i }
     {
         let home = self.birth_home(i);
         self.births[i].live = false;

@@ -1,7 +1,6 @@
 // A new make order.
 ghost use Rattle.std.specs.Prelude.{◌≡◌, IfOk};
 ghost use Rattle.makes.specs.Machine.{start};
-ghost use Rattle.makes.specs.Model.{make_model};
 ghost use Rattle.makes.specs.Order.{make_machine};
 
 use crate::room::Room;
@@ -12,8 +11,8 @@ use std::alloc::{AllocError, Global};
 impl Makes {
     // A new order with this room: the session alone.
     pub fn new(heap: Global, room: Room) -> Result<Makes, AllocError>
-        ensures start { IfOk result (λ s. make_model s ≡ start room) }
-        ensures valid { IfOk result (λ s. make_machine.valid (make_model s)) }
+        ensures start { IfOk result (λ s. s ≡ start room) }
+        ensures valid { IfOk result (λ s. make_machine.valid s) }
     {
         let room = room.capped();
         let births = Vec::with_capacity(heap, room.births)?;

@@ -1,11 +1,9 @@
 // The state of the make order.
-ghost use Rattle.std.specs.Prelude.{◌+◌, ◌≤◌, vec_capacity};
-ghost use Rattle.makes.specs.Sound.{Sound};
-
 use crate::room::Room;
 use crate::rows::Row;
 use crate::tree::Tree;
 use births::Birth;
+use std::marker::Model;
 
 #[derive(Drop)]
 pub struct Makes {
@@ -24,8 +22,17 @@ pub struct Makes {
     pub(crate) slots: Vec<usize>,
     // for each target the row of those that it needs
     pub(crate) rows: Vec<Row>,
-    ghost sound: { Sound (record { number = number; room = room; births = births.items; places = tree.places.items; makes = makes; slots = slots.items; rows = rows.items }) },
-    ghost births_reserved: { room.births ≤ vec_capacity births },
-    ghost places_reserved: { 1 + room.births + room.makes + room.targets ≤ vec_capacity tree.places },
-    ghost rows_reserved: { room.targets ≤ vec_capacity rows },
+}
+
+// Contracts see a state of the machine.
+impl Model for Makes {
+    ghost use Rattle.makes.specs.Machine.{Build};
+
+    ghost Value = { Build };
+
+    ghost use Rattle.makes.specs.Model.{built, Kept};
+
+    ghost view = { built };
+
+    ghost invariant = { Kept };
 }

@@ -3,10 +3,8 @@
 
 ghost use Rattle.std.specs.Prelude.{◌≡◌, true, length, IfOk};
 ghost use Rattle.makes.specs.Machine.{start};
-ghost use Rattle.makes.specs.Model.{make_model};
 ghost use Rattle.makes.specs.Order.{make_machine};
 ghost use Rattle.flags.specs.Machine.{flagged, new_flags};
-ghost use Rattle.flags.specs.Model.{flag_model};
 ghost use Rattle.orders_shown.specs.Rows.{all_hold};
 ghost use Rattle.makes_shown.specs.Table.{worked_rows};
 
@@ -17,8 +15,8 @@ use std::alloc::{AllocError, Global};
 
 // The flags layer over a new make order: the law's premise is met.
 pub fn flagged_makes(heap: Global, room: Room) -> Result<Flags<Makes>, AllocError>
-    ensures start { IfOk result (λ s. flag_model make_model s ≡ new_flags (start room)) }
-    ensures valid { IfOk result (λ s. (flagged make_machine).valid (flag_model make_model s)) }
+    ensures start { IfOk result (λ s. ⟦<Flags<Makes> as Order>⟧.model s ≡ new_flags (start room)) }
+    ensures valid { IfOk result (λ s. (flagged make_machine).valid (⟦<Flags<Makes> as Order>⟧.model s)) }
 {
     let makes = Makes::new(heap, room)?;
     Ok(Flags::new(heap, makes)?)

@@ -1,11 +1,14 @@
-use Rattle.std.proofs.Common.{sym, subst}
-use Rattle.makes.specs.Model.{make_model}
+use Rattle.std.proofs.Common.{sym, subst, arith}
+use Rattle.makes.specs.Model.{built}
 use Rattle.makes.specs.Sound.{Sound}
 use Rattle.makes.proofs.Asked.{turned_is}
 use Rattle.makes.proofs.state.Makes.turn_make.Goals as goal
 
-pub invariant_of-self-clause-sound : goal.invariant_of-self-clause-sound
-invariant_of-self-clause-sound c =
-    let is = turned_is c.args.number (make_model c.args.self.now) c.args.i c.birth_home-home.result c.index_mut.result.now c.requires.live c.birth_home-home.ensures.answer c.index_mut.ensures.value
+pub invariant_of-self : goal.invariant_of-self
+invariant_of-self c =
+    let live = rw (← c.self.view_is) at c.requires.live in
+    let at = rw (← c.self.view_is) at c.birth_home-home.ensures.answer in
+    let kept = rw (← c.self.view_is) at c.requires.kept in
+    let is = turned_is c.args.number (built c.self.inside) c.args.i c.birth_home-home.result c.index_mut.result.now live at c.index_mut.ensures.value
     c.len.result c.len.ensures.answer c.add_make.ensures.items in
-    subst Sound (sym is) c.requires.kept
+    record { sound = subst Sound (sym is) kept; births_reserved = omega arith; places_reserved = omega arith; rows_reserved = omega arith }
