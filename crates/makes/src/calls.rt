@@ -33,7 +33,7 @@ impl Makes {
             let Kind::Make(make) = self.tree.kind(home) else {
                 return Err(OrderFault::NotMake);
             };
-            if make.targets < target as usize {
+            if make.targets < usize::from(target) {
                 return Err(OrderFault::Undeclared);
             }
         }

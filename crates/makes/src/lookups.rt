@@ -1,4 +1,5 @@
-// Where processes and targets are found in a make order.
+// Where processes and targets are found in a make order. Some ask that a make stands at a place: what stands there depends on the table of
+// the moment, so no type can hold it.
 ghost use Rattle.std.specs.Prelude.{◌≡◌, ◌<◌, true, length, IfSome};
 ghost use Rattle.makes.specs.declared.places.Kind.{Kind};
 ghost use Rattle.makes.specs.Machine.{home_of, parent_home as home_of_parent, slots_from, target_at, rows_of, HasTarget};
@@ -77,7 +78,7 @@ impl Makes {
         requires declared { HasTarget self.now make target }
         ensures answer { result ≡ target_at self.now make target }
     {
-        self.slots[self.first_slot(make) + (target as usize - 1)]
+        self.slots[self.first_slot(make) + (usize::from(target) - 1)]
     }
 
     // The row of a new target of a make: its prerequisites, and all that these need.

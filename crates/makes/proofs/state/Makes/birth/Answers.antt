@@ -5,7 +5,7 @@ use Rattle.makes.specs.Model.{built}
 use Rattle.makes.specs.Sound.{Sound}
 use Rattle.makes.proofs.Taken.{born_kept, stepped_kept}
 use Rattle.makes.proofs.state.Makes.birth.Goals as goal
-use Rattle.makes.proofs.state.Makes.birth.Goals.{then-target-ne0+in-Make+else-make-target, else-target-ne0}
+use Rattle.makes.proofs.state.Makes.birth.Goals.{then-target-ne0+in-Make+else-make-from, else-target-ne0}
 
 pub bear-requires : goal.bear-requires
 bear-requires c =

@@ -26,5 +26,5 @@ returns c =
     record {
       answer =
           rw (← c.self.view_is)
-          (get_or_read c.self.inside.slots.items (c.first_slot.result + (c.args.target - 1)) c.index.result.now (omega arith) c.index.ensures 0 ∙ ap (λ n. get_or c.self.inside.slots.items (n + (c.args.target - 1)) 0) first);
+          (get_or_read c.self.inside.slots.items (c.first_slot.result + (c.from.result - 1)) c.index.result.now (omega arith) c.index.ensures 0 ∙ ap (λ n. get_or c.self.inside.slots.items n 0) (omega arith));
     }
