@@ -9,7 +9,7 @@ use paths::HeldPath;
 
 // Which kinds of access are critical, and under which letter a race is reported. A rule always answers the same.
 pub trait ConflictRule {
-    // What the rule judges the accesses on.
+    // What the rule judges the accesses on; a table is keyed by it.
     type Key;
 
     ghost critical: { Self → Kind → Bool };
@@ -19,6 +19,7 @@ pub trait ConflictRule {
     fn is_critical(&self, kind: Kind) -> bool
         ensures answer { result ≡ critical self.now kind };
 
+    // The byte that stands in the printed line.
     fn letter(&self) -> u8
         ensures answer { result ≡ reports self.now };
 }

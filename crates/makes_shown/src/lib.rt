@@ -22,7 +22,8 @@ pub fn flagged_makes(heap: Global, room: Room) -> Result<Flags<Makes>, AllocErro
     Ok(Flags::new(heap, makes)?)
 }
 
-// How many worked rows there are: the order gives every answer of each.
+// How many worked rows there are: the order gives every answer of each. No argument can carry a table of specs/, so each table has a
+// function of its own.
 pub fn worked_rows() -> usize
     ensures count { result ≡ length worked_rows }
     ensures hold { all_hold worked_rows ≡ true }
@@ -38,6 +39,13 @@ mod tests {
     use orders_shown::at;
     use std::test::Fail;
 
+    fn target<'a>(process: u32, prerequisites: &'a [u16]) -> Event<'a> {
+        Event::Target {
+            process,
+            prerequisites,
+        }
+    }
+
     // 512 targets, each of which needs the one before it, and no more: the last needs the first.
     #[test]
     fn targets_at_the_limit(rt: HostRuntime) -> Result<(), Fail> {
@@ -47,33 +55,16 @@ mod tests {
             targets: 9_999,
         };
         let mut order = Makes::new(rt.alloc(), room)?;
-        assert_eq!(rt; order.tell(Event::birth(1, 0, 0)), Ok(()));
-        assert_eq!(rt; order.tell(Event::make(1)), Ok(()));
-        assert_eq!(rt;
-            order.tell(Event::Target {
-                process: 1,
-                prerequisites: &[],
-            }),
-            Ok(())
-        );
-        for i in 1..512u16 {
-            assert_eq!(rt;
-                order.tell(Event::Target {
-                    process: 1,
-                    prerequisites: &[i],
-                }),
-                Ok(())
-            );
+        for event in [Event::birth(1, 0, 0), Event::make(1), target(1, &[])] {
+            assert_eq!(rt; order.tell(event), Ok(()));
         }
-        assert_eq!(rt;
-            order.tell(Event::Target {
-                process: 1,
-                prerequisites: &[512],
-            }),
-            Err(OrderFault::TableFull)
-        );
-        assert_eq!(rt; order.tell(Event::birth(2, 1, 1)), Ok(()));
-        assert_eq!(rt; order.tell(Event::birth(3, 1, 512)), Ok(()));
+        for i in 1..512u16 {
+            assert_eq!(rt; order.tell(target(1, &[i])), Ok(()));
+        }
+        assert_eq!(rt; order.tell(target(1, &[512])), Err(OrderFault::TableFull));
+        for event in [Event::birth(2, 1, 1), Event::birth(3, 1, 512)] {
+            assert_eq!(rt; order.tell(event), Ok(()));
+        }
         assert!(rt; order.before(at(515, 514), at(516, 515)));
         Ok(())
     }
@@ -107,20 +98,17 @@ mod tests {
             targets: 2,
         };
         let mut order = flagged_makes(rt.alloc(), room)?;
-        assert_eq!(rt; order.tell(Event::birth(1, 0, 0)), Ok(()));
-        assert_eq!(rt; order.tell(Event::make(1)), Ok(()));
-        for _ in 0..2 {
-            assert_eq!(rt;
-                order.tell(Event::Target {
-                    process: 1,
-                    prerequisites: &[],
-                }),
-                Ok(())
-            );
+        for event in [
+            Event::birth(1, 0, 0),
+            Event::make(1),
+            target(1, &[]),
+            target(1, &[]),
+            Event::birth(2, 1, 1),
+            Event::birth(3, 1, 2),
+            Event::post(2, 7),
+        ] {
+            assert_eq!(rt; order.tell(event), Ok(()));
         }
-        assert_eq!(rt; order.tell(Event::birth(2, 1, 1)), Ok(()));
-        assert_eq!(rt; order.tell(Event::birth(3, 1, 2)), Ok(()));
-        assert_eq!(rt; order.tell(Event::post(2, 7)), Ok(()));
         assert!(rt; !order.before(at(5, 4), at(7, 5)));
         assert_eq!(rt; order.tell(Event::wait(3, 7)), Ok(()));
         assert!(rt; !order.before(at(5, 4), at(7, 5)));

@@ -114,62 +114,55 @@ mod tests {
 
     #[test]
     fn lines(rt: HostRuntime) {
-        assert!(rt;
-            writes(
+        let table: [(Line, &[u8]); 6] = [
+            (
                 Line::Contents {
                     earlier: 7,
                     later: 10,
                 },
                 b"C 7 10\n",
-            )
-        );
-        assert!(rt;
-            writes(
+            ),
+            (
                 Line::Path {
                     earlier: 999_999,
                     later: 1_000_000,
                 },
                 b"P 999999 1000000\n",
-            )
-        );
-        assert!(rt;
-            writes(
+            ),
+            (
                 Line::Directory {
                     earlier: 1,
                     later: 2,
                 },
                 b"D 1 2\n",
-            )
-        );
-        assert!(rt;
-            writes(
+            ),
+            (
                 Line::End {
                     entries: 5,
                     checks: 3,
                     races: 1,
                 },
                 b"E 5 3 1\n",
-            )
-        );
-        assert!(rt;
-            writes(
+            ),
+            (
                 Line::End {
                     entries: 0,
                     checks: 0,
                     races: 0,
                 },
                 b"E 0 0 0\n",
-            )
-        );
-        assert!(rt;
-            writes(
+            ),
+            (
                 Line::Refused {
                     number: 21,
                     place: 0,
                 },
                 b"X 21 0\n",
-            )
-        );
+            ),
+        ];
+        for (line, text) in table {
+            assert!(rt; writes(line, text));
+        }
     }
 
     #[test]

@@ -40,7 +40,7 @@ impl Order for Frozen {
     }
 
     fn known(&self, a: Timestamp) -> bool {
-        1 <= a.number && a.number <= GIVEN
+        (1..=GIVEN).contains(&a.number)
     }
 
     fn before(&self, a: Timestamp, b: Timestamp) -> bool {

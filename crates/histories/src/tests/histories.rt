@@ -6,12 +6,14 @@ use std::process::Abort;
 use std::test::Fail;
 
 // An access and what entering it answers: its kind, number and place, how many checks it makes, and the earlier number of the first that
-// fails.
+// fails; 0 if none does, as `Checked::earlier` answers.
 type Entry = (Kind, u32, u32, usize, u32);
 
-// The numbers of a failing pair; 0 and 0 for none, as the rules have the numbers of an entry.
-fn numbers(race: Option<Race>) -> (u32, u32) {
-    race.map_or((0, 0), |race| (race.earlier.number, race.later.number))
+// The numbers of a failing pair, if there is one.
+type Pair = Option<(u32, u32)>;
+
+fn numbers(race: Option<Race>) -> Pair {
+    race.map(|race| (race.earlier.number, race.later.number))
 }
 
 // Enters the accesses of a row on a new key, and compares each answer and the failing pair in the end.
@@ -20,7 +22,7 @@ fn enters<R: ConflictRule>(
     heap: Global,
     rule: &R,
     row: &[Entry],
-    pair: (u32, u32),
+    pair: Pair,
 ) -> Result<(), Fail> {
     let mut history = History::new(heap);
     for &(kind, number, place, checks, earlier) in row {
@@ -35,21 +37,15 @@ fn enters<R: ConflictRule>(
 
 #[test]
 fn contents(rt: HostRuntime) -> Result<(), Fail> {
-    let table: [(&[Entry], (u32, u32)); 9] = [
+    let table: [(&[Entry], Pair); 9] = [
         // reads do not conflict
-        (
-            &[(Kind::Read, 1, 5, 0, 0), (Kind::Read, 2, 3, 0, 0)],
-            (0, 0),
-        ),
+        (&[(Kind::Read, 1, 5, 0, 0), (Kind::Read, 2, 3, 0, 0)], None),
         // a write, then a read that it is before
-        (
-            &[(Kind::Write, 1, 5, 0, 0), (Kind::Read, 2, 5, 1, 0)],
-            (0, 0),
-        ),
+        (&[(Kind::Write, 1, 5, 0, 0), (Kind::Read, 2, 5, 1, 0)], None),
         // a write, then a read that it is not before
         (
             &[(Kind::Write, 1, 5, 0, 0), (Kind::Read, 2, 3, 1, 1)],
-            (1, 2),
+            Some((1, 2)),
         ),
         // a write after two reads, of which only the older is not before it
         (
@@ -58,7 +54,7 @@ fn contents(rt: HostRuntime) -> Result<(), Fail> {
                 (Kind::Read, 2, 2, 0, 0),
                 (Kind::Write, 3, 5, 2, 1),
             ],
-            (1, 3),
+            Some((1, 3)),
         ),
         // of which only the newer is not
         (
@@ -67,7 +63,7 @@ fn contents(rt: HostRuntime) -> Result<(), Fail> {
                 (Kind::Read, 2, 9, 0, 0),
                 (Kind::Write, 3, 5, 2, 2),
             ],
-            (2, 3),
+            Some((2, 3)),
         ),
         // of which neither is: the newer is asked first
         (
@@ -76,12 +72,12 @@ fn contents(rt: HostRuntime) -> Result<(), Fail> {
                 (Kind::Read, 2, 8, 0, 0),
                 (Kind::Write, 3, 5, 2, 2),
             ],
-            (2, 3),
+            Some((2, 3)),
         ),
         // two writes with nothing in between
         (
             &[(Kind::Write, 1, 5, 0, 0), (Kind::Write, 2, 3, 1, 1)],
-            (1, 2),
+            Some((1, 2)),
         ),
         // the first failing pair stays, and a later failure is answered all the same
         (
@@ -90,7 +86,7 @@ fn contents(rt: HostRuntime) -> Result<(), Fail> {
                 (Kind::Read, 2, 3, 1, 1),
                 (Kind::Write, 3, 1, 1, 2),
             ],
-            (1, 2),
+            Some((1, 2)),
         ),
         // a write asks only about what came since the last one
         (
@@ -101,7 +97,7 @@ fn contents(rt: HostRuntime) -> Result<(), Fail> {
                 (Kind::Write, 4, 9, 1, 0),
                 (Kind::Write, 5, 9, 1, 0),
             ],
-            (0, 0),
+            None,
         ),
     ];
     for (row, pair) in table {
@@ -112,7 +108,7 @@ fn contents(rt: HostRuntime) -> Result<(), Fail> {
 
 #[test]
 fn paths(rt: HostRuntime) -> Result<(), Fail> {
-    let table: [(&[Entry], (u32, u32)); 3] = [
+    let table: [(&[Entry], Pair); 3] = [
         // writes do not conflict on a path
         (
             &[
@@ -120,7 +116,7 @@ fn paths(rt: HostRuntime) -> Result<(), Fail> {
                 (Kind::Write, 2, 3, 0, 0),
                 (Kind::Read, 3, 1, 0, 0),
             ],
-            (0, 0),
+            None,
         ),
         // a removal after a write and a read
         (
@@ -129,12 +125,12 @@ fn paths(rt: HostRuntime) -> Result<(), Fail> {
                 (Kind::Read, 2, 2, 0, 0),
                 (Kind::Removal, 3, 5, 2, 1),
             ],
-            (1, 3),
+            Some((1, 3)),
         ),
         // a write after a removal
         (
             &[(Kind::Removal, 1, 5, 0, 0), (Kind::Write, 2, 3, 1, 1)],
-            (1, 2),
+            Some((1, 2)),
         ),
     ];
     for (row, pair) in table {
@@ -154,16 +150,16 @@ enum Step {
 }
 
 // A step with its number and place, and the number of the attempt that a failed lookup answers.
-type Use = (Step, u32, u32, u32);
+type Use = (Step, u32, u32, Option<u32>);
 
-fn uses(rt: &impl Abort, heap: Global, row: &[Use], pair: (u32, u32)) -> Result<(), Fail> {
+fn uses(rt: &impl Abort, heap: Global, row: &[Use], pair: Pair) -> Result<(), Fail> {
     let mut directory = Directory::new(heap);
     for &(step, number, place, shown) in row {
         let at = Timestamp { number, place };
         match step {
             Step::LookUp => {
                 let failed = directory.look_up(&Frozen, at);
-                assert_eq!(rt; failed.map_or(0, |attempt| attempt.number), shown);
+                assert_eq!(rt; failed.map(|attempt| attempt.number), shown);
             }
             Step::Attempt => {
                 directory.reserve()?;
@@ -178,41 +174,47 @@ fn uses(rt: &impl Abort, heap: Global, row: &[Use], pair: (u32, u32)) -> Result<
 
 #[test]
 fn lookups(rt: HostRuntime) -> Result<(), Fail> {
-    let table: [(&[Use], (u32, u32)); 6] = [
+    let table: [(&[Use], Pair); 6] = [
         // no attempt
-        (&[(Step::LookUp, 1, 5, 0)], (0, 0)),
+        (&[(Step::LookUp, 1, 5, None)], None),
         // one that is before the lookup
-        (&[(Step::Attempt, 1, 5, 0), (Step::LookUp, 2, 5, 0)], (0, 0)),
+        (
+            &[(Step::Attempt, 1, 5, None), (Step::LookUp, 2, 5, None)],
+            None,
+        ),
         // one that is not
-        (&[(Step::Attempt, 1, 9, 0), (Step::LookUp, 2, 5, 1)], (1, 2)),
+        (
+            &[(Step::Attempt, 1, 9, None), (Step::LookUp, 2, 5, Some(1))],
+            Some((1, 2)),
+        ),
         // one of two is before it
         (
             &[
-                (Step::Attempt, 1, 3, 0),
-                (Step::Attempt, 2, 9, 0),
-                (Step::LookUp, 3, 5, 0),
+                (Step::Attempt, 1, 3, None),
+                (Step::Attempt, 2, 9, None),
+                (Step::LookUp, 3, 5, None),
             ],
-            (0, 0),
+            None,
         ),
         // none of two: the newer is shown, and the first failing pair stays
         (
             &[
-                (Step::Attempt, 1, 9, 0),
-                (Step::Attempt, 2, 8, 0),
-                (Step::LookUp, 3, 5, 2),
-                (Step::Attempt, 4, 9, 0),
-                (Step::LookUp, 5, 6, 4),
+                (Step::Attempt, 1, 9, None),
+                (Step::Attempt, 2, 8, None),
+                (Step::LookUp, 3, 5, Some(2)),
+                (Step::Attempt, 4, 9, None),
+                (Step::LookUp, 5, 6, Some(4)),
             ],
-            (2, 3),
+            Some((2, 3)),
         ),
         // a removal forgets the attempts
         (
             &[
-                (Step::Attempt, 1, 9, 0),
-                (Step::Forget, 2, 9, 0),
-                (Step::LookUp, 3, 5, 0),
+                (Step::Attempt, 1, 9, None),
+                (Step::Forget, 2, 9, None),
+                (Step::LookUp, 3, 5, None),
             ],
-            (0, 0),
+            None,
         ),
     ];
     for (row, pair) in table {

@@ -4,59 +4,14 @@ use std::test::Fail;
 
 #[test]
 fn pairs(rt: HostRuntime) {
-    let rows = [
-        Row {
-            key: InodePair {
-                device: 1,
-                inode: 50,
-            },
-            value: 0u8,
-        },
-        Row {
-            key: InodePair {
-                device: 2,
-                inode: 50,
-            },
-            value: 1u8,
-        },
-        Row {
-            key: InodePair {
-                device: 2,
-                inode: 51,
-            },
-            value: 2u8,
-        },
-    ];
-    assert_eq!(rt;
-        find_pair(
-            &rows,
-            InodePair {
-                device: 2,
-                inode: 50,
-            },
-        ),
-        Some(1)
-    );
-    assert_eq!(rt;
-        find_pair(
-            &rows,
-            InodePair {
-                device: 2,
-                inode: 51,
-            },
-        ),
-        Some(2)
-    );
-    assert_eq!(rt;
-        find_pair(
-            &rows,
-            InodePair {
-                device: 1,
-                inode: 51,
-            },
-        ),
-        None
-    );
+    let row = |device, inode, value: u8| Row {
+        key: InodePair { device, inode },
+        value,
+    };
+    let rows = [row(1, 50, 0), row(2, 50, 1), row(2, 51, 2)];
+    for (device, inode, found) in [(2, 50, Some(1)), (2, 51, Some(2)), (1, 51, None)] {
+        assert_eq!(rt; find_pair(&rows, InodePair { device, inode }), found);
+    }
 }
 
 #[test]
