@@ -1,8 +1,9 @@
 -- The checks of a call, walked one by one.
-use Rattle.std.proofs.Common.{◌≡◌, ℕ, zero, suc, Bool, true, false, List, [], ◌∷◌, is_ok, IfOk, Result, refl}
-use Rattle.std.proofs.lemmas.Bool.{false≢true}
+use Rattle.std.proofs.Common.{◌≡◌, ℕ, zero, suc, ◌+◌, ◌≤◌, Bool, true, false, List, [], ◌∷◌, ◌==◌, is_ok, IfOk, Result, refl, arith}
+use Rattle.std.proofs.lemmas.Bool.{false≢true, eqb-false}
 use Rattle.faults.specs.declared.OrderFault.{OrderFault}
 use Rattle.order.specs.Machine.{refused_if, checked}
+use Rattle.order.specs.Meaning.{last_number}
 
 -- each test failed
 abbrev pub Passed : List (Bool × OrderFault) → Type 0
@@ -42,3 +43,7 @@ refusing (c ∷ cs) x (suc k) e = refused_behind c.0 c.1 (checked cs x) (refusin
 pub refused_after : {X : Type 0} (cs : List (Bool × OrderFault)) (x : Result X OrderFault) → is_ok x ≡ false → is_ok (checked cs x) ≡ false
 refused_after [] x e = e
 refused_after (c ∷ cs) x e = refused_behind c.0 c.1 (checked cs x) (refused_after cs x e)
+
+-- a number that the check of the last number let pass: the next one is still to give
+pub still_counted : (n : ℕ) → n ≤ last_number → (n == last_number) ≡ false → n + 1 ≤ last_number
+still_counted n v e = let ne = eqb-false n last_number e in omega arith

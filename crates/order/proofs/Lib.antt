@@ -1,4 +1,3 @@
-pub mod Absent
 pub mod Bits
 pub mod Checks
 pub mod Newest

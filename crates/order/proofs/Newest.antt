@@ -1,7 +1,7 @@
 -- Lists that grow at their end, read newest first.
-use Rattle.std.proofs.Common.{◌≡◌, ℕ, ◌+◌, ◌-◌, ◌<◌, ◌≤◌, List, [], ◌∷◌, ◌++◌, map, reverse, length, get_or, take, sym, refl, ap, ◌∙◌, arith}
+use Rattle.std.proofs.Common.{◌≡◌, ℕ, ◌+◌, ◌<◌, ◌≤◌, List, [], ◌∷◌, ◌++◌, map, reverse, length, get_or, take, refl, ap, ◌∙◌}
 use mathlib.Core.List.{reverse_aux}
-use Rattle.std.proofs.lemmas.List.{reverse-append, take_more, take_all, length-reverse, length-take-le}
+use Rattle.std.proofs.lemmas.List.{reverse-append, take_more, length-reverse, length-take-le}
 
 -- one more at the end is one more in front
 pub newest_push : {X : Type 0} (xs : List X) (x : X) → reverse (xs ++ x ∷ []) ≡ x ∷ reverse xs
@@ -10,18 +10,6 @@ newest_push xs x = reverse-append xs (x ∷ [])
 -- A loop that goes from the start up, and what it has passed.
 pub newest_next : {X Y : Type 0} (F : List X → Y) (xs : List X) (i : ℕ) (d : X) → i < length xs → F (reverse (take (i + 1) xs)) ≡ F (get_or xs i d ∷ reverse (take i xs))
 newest_next F xs i d within = ap (λ ys. F (reverse ys)) (take_more xs i d within) ∙ ap F (newest_push (take i xs) (get_or xs i d))
-
--- A loop that goes from the end down, and what is left to it: a step, the end, and the start.
-pub newest_more : {X Y : Type 0} (F : List X → Y) (xs : List X) (i : ℕ) (d : X) → 0 < i → i ≤ length xs → F (reverse (take i xs)) ≡ F (get_or xs (i - 1) d ∷ reverse (take (i - 1) xs))
-newest_more F xs i d some within =
-    let up : i - 1 + 1 ≡ i = omega arith in
-    ap (λ n. F (reverse (take n xs))) (sym up) ∙ newest_next F xs (i - 1) d (omega arith)
-
-pub newest_all : {X Y : Type 0} (F : List X → Y) (xs : List X) (i : ℕ) → i ≤ 0 → F (reverse (take i xs)) ≡ F []
-newest_all F xs i none = let z : i ≡ 0 = omega arith in ap (λ n. F (reverse (take n xs))) z
-
-pub newest_none : {X Y : Type 0} (F : List X → Y) (xs : List X) → F (reverse (take (length xs) xs)) ≡ F (reverse xs)
-newest_none F xs = ap (λ ys. F (reverse ys)) (take_all (length xs) xs (omega arith))
 
 -- how many are left
 pub length_newest : {X : Type 0} (xs : List X) (i : ℕ) → i ≤ length xs → length (reverse (take i xs)) ≡ i

@@ -3,10 +3,10 @@ use Rattle.std.specs.Prelude.{◌≡◌, ℕ, ◌+◌, ◌-◌, ◌<◌, ◌≤�
 use Rattle.std.proofs.Common.{inl, inr, ⊎_elim, sym, ap, subst, ◌∙◌, arith}
 use Rattle.std.proofs.lemmas.List.{length-map, length_push, get_or_append_left, get_or-map, length-reverse}
 use Rattle.std.proofs.lemmas.Result.{IfOk-at_ok}
-use Rattle.std.proofs.lemmas.Bool.{eqb-true, eq-eqb, eqb-false, ltb-true, lt-ltb, leb-true, le-leb, and_from, and_parts, or_cases, or_left, or_right}
+use Rattle.std.proofs.lemmas.Bool.{eqb-true, eq-eqb, ltb-true, lt-ltb, leb-true, le-leb, and_from, and_parts, or_cases, or_left, or_right}
 use Rattle.std.specs.Result.{result_err}
 use Rattle.faults.specs.declared.OrderFault.TheVariants.{NotLive, UsedUp}
-use Rattle.order.proofs.Checks.{passing, refusing}
+use Rattle.order.proofs.Checks.{passing, refusing, still_counted}
 use Rattle.order.proofs.Newest.{newest_push, newest_map}
 use Rattle.order.specs.declared.Timestamp.{Timestamp}
 use Rattle.order.specs.Events.{Told, birth, make, target, death, post, await}
@@ -83,9 +83,6 @@ module _ (s : Staged) (births : List (Birth ℕ)) (more : length s.births ≤ le
         let sb = same b.place q.2 q.3 in
         λ i. ea i && (eb i && (nat_lt a.number b.number && (a.place == b.place || nat_lt (sa i) (sb i))));
   }
-
-still_counted : (n : ℕ) → n ≤ last_number → (n == last_number) ≡ false → n + 1 ≤ last_number
-still_counted n v e = let ne = eqb-false n last_number e in omega arith
 
 -- each accepted event, by what its checks tell
 event_taken : (s : Staged) (e : Told) → s.number ≤ last_number → IfOk (tell_stage s e) (EventTaken stages s e)
