@@ -12,16 +12,17 @@ use Rattle.makes.specs.declared.places.Kind.{Kind}
 use Rattle.makes.specs.declared.places.Kind.TheVariants.{Session, Make, Target, Step}
 use Rattle.makes.specs.declared.places.Place.{Place}
 use Rattle.makes.specs.Machine.{Build, found, known_in, target_at, settled, slots_from, turned, ended, listed, rows_of, HasTarget}
-use Rattle.makes.specs.Places.{make, make_sort, target_sort, is_make, is_target, ordinal_of, targets_of, row_of, one_more, one_less, no_place, place_at, kind_at, Shape, shape, shapes, shape_at, parents_of, parents, stand, changed, make_added, no_birth, birth_at, all_declared}
+use Rattle.makes.specs.Places.{target_sort, is_make, is_target, ordinal_of, targets_of, row_of, one_more, one_less, no_place, place_at, kind_at, Shape, shape, shapes, shape_at, parents_of, parents, stand, changed, make_added, no_birth, birth_at, all_declared}
 use Rattle.makes.specs.Rows.{joined_row}
 use Rattle.makes.specs.Sound.{Sound, SoundTree, TargetOf, counts_at, makes_above}
 use Rattle.makes.specs.Tree.{Earlier, Holds, Side, Meets, line, levels, holds}
 use Rattle.makes.specs.Entries.{live_more, more_shapes}
+use Rattle.makes.specs.Deaths.{some_there}
 use Rattle.makes.specs.Found.{Found, Nobody, found_tells}
 use Rattle.makes.specs.Judging.{sort_is, row_is, Judgeable, side_row, side_kind}
 use Rattle.makes.specs.Lawful.{known_parts}
-use Rattle.makes.specs.Lodgers.{birth_new, lodger_counts}
-use Rattle.makes.specs.Shapes.{shape_is, count_is, length_changed, is_make_sort, above_make, levels_few}
+use Rattle.makes.specs.Lodgers.{birth_new}
+use Rattle.makes.specs.Shapes.{shape_is, in_shapes, count_is, length_changed, make_shape, above_make, levels_few}
 use Rattle.makes.specs.TreeLemmas.{holds_decides, holds_le}
 use Rattle.makes.specs.Views.{live_is, walked_at}
 use Rattle.makes.specs.Walks.{up_at}
@@ -85,15 +86,8 @@ leavable s sound i h alive =
       some = λ x held.
           let le = holds_le (parents s.places) sound.tree.earlier held in
           let size = length-map s.places shape in
-          there x (omega arith) ((holds_decides (parents s.places) sound.tree.earlier x (birth_at s.births i).at).1 held);
+          some_there s sound i h alive x (omega arith) ((holds_decides (parents s.places) sound.tree.earlier x (birth_at s.births i).at).1 held);
     }
-  where
-    there : (x : ℕ) → x < length (shapes s.places) → holds (parents s.places) x (birth_at s.births i).at ≡ true → 0 < (place_at s.places x).live
-    there x w held =
-        let c = lodger_counts (parents s.places) s.births x i h alive held in
-        let l = sound.births.live x w in
-        let e = live_is s.places x in
-        omega arith
 
 -- A make stands within the table, and only a make has targets.
 pub make_within : (ps : List Place) (x : ℕ) → is_make (kind_at ps x) ≡ true → x < length ps
@@ -122,13 +116,10 @@ module _ (s : Build) (sound : Sound s) (m : ℕ) (made : is_make (kind_at s.plac
   ordinal_is = ap (λ (y : Shape). y.ordinal) (shape_is s.places m)
 
   in_tree : m < length (shapes s.places)
-  in_tree = let n = length-map s.places shape in let w = make_within s.places m made in omega arith
-
-  make_is : (shape_at (shapes s.places) m).sort ≡ make
-  make_is = is_make_sort _ (ap make_sort (sort_is s sound m) ∙ made)
+  in_tree = in_shapes s.places (make_within s.places m made)
 
   ordinal_low : ordinal_of (kind_at s.places m) < s.makes
-  ordinal_low = let o = sound.slots.ordinal m in_tree make_is in let i = ordinal_is in omega arith
+  ordinal_low = let o = sound.slots.ordinal m in_tree (make_shape s.places m made) in let i = ordinal_is in omega arith
 
   pub first_few : slots_from s m ≤ 32768
   first_few =
@@ -166,7 +157,7 @@ ready s sound m k has =
     let c = count_is s.places m in
     let f = targets_few s sound m made in
     let t = subst (λ o. TargetOf (shapes s.places) m (get_or s.slots (o * s.room.targets + (k - 1)) 0)) (ordinal_is s sound m made)
-    (sound.slots.slotted m (k - 1) (in_tree s sound m made) (make_is s sound m made) (omega arith)) in
+    (sound.slots.slotted m (k - 1) (in_tree s sound m made) (make_shape s.places m made) (omega arith)) in
     let r = sound.slots.row (target_at s m k) t.within t.sort in
     let same = row_is s sound (target_at s m k) in
     let rows = sound.room.targets in
@@ -288,7 +279,7 @@ module _ (s : Build) (sound : Sound s) where
       go : (b : Bool) → is_make (kind_at s.places h) ≡ b → cond b (place_at s.places h).parent h ≤ h
       go true e =
           let n = length-map s.places shape in
-          let a = above_make (shapes s.places) sound.tree h (omega arith) (is_make_sort _ (ap make_sort (sort_is s sound h) ∙ e)) in
+          let a = above_make (shapes s.places) sound.tree h (omega arith) (make_shape s.places h e) in
           let less = a.1 in
           let is = up_at s.places h in
           omega arith

@@ -24,13 +24,11 @@ use Rattle.makes.specs.Lawful.{KnownParts, known_parts, known_from, before_parts
 use Rattle.makes.proofs.RunsPlaces.{sort_told, size, found_stands}
 use Rattle.makes.proofs.RunsRows.{TargetPlace, prerequisite_rows}
 use Rattle.makes.proofs.Starts.{new_sound}
+use Rattle.makes.specs.Shapes.{in_shapes, session_step}
 use Rattle.makes.specs.TreeLemmas.{climb_meets, meets_only, branch_apart, holds_le}
 use Rattle.makes.specs.Views.{start_is, end_is}
 use Rattle.makes.proofs.RunsOrderly.{stand_told, orderly}
 use Rattle.makes.proofs.RunsWhole.{Whole, Stamped, stamped, whole}
-
-session_no_step : session ≡ step → ⊥
-session_no_step e = cc
 
 -- below what is no make stands what starts and ends
 below_lasts : (child above : Sort) → fits_below child above ≡ true → make_sort above ≡ false → lasting child ≡ true
@@ -46,9 +44,6 @@ target_no_stand a_target e s = false≢true s
 target_no_stand step e s = cc
 
 module _ {calls : List Call} {s : Build} (w : Whole calls s) where
-  in_shapes : {x : ℕ} → x < length s.places → x < length (shapes s.places)
-  in_shapes h = let z = length-map s.places shape in omega arith
-
   -- known, by the place's sort
   placed_from : (x : ℕ) → (x ≡ 0) ⊎ (sort_in calls x ≡ step) → (x < length s.places) × (is_stand (kind_at s.places x) ≡ true)
   placed_from x (inl e) =
@@ -57,7 +52,7 @@ module _ {calls : List Call} {s : Build} (w : Whole calls s) where
       (omega arith, ap (λ y. is_stand (kind_at s.places y)) e ∙ ap stand_sort (sym (sort_is s w.sound 0) ∙ w.sound.tree.root))
   placed_from x (inr e) =
       let n = size w.follows w.sound in (
-        ⊎_elim (λ h. h) (λ past. absurd (session_no_step (sym (get_or_past (sorts_in calls) x session (omega arith)) ∙ e))) (cases_lt x (length s.places)),
+        ⊎_elim (λ h. h) (λ past. absurd (session_step (sym (get_or_past (sorts_in calls) x session (omega arith)) ∙ e))) (cases_lt x (length s.places)),
         ap stand_sort (sym (sort_is s w.sound x) ∙ sym (sort_told w.follows w.sound x) ∙ e),
       )
 
@@ -109,7 +104,7 @@ module _ {calls : List Call} {s : Build} (w : Whole calls s) where
         (λ br.
         let le = holds_le (parents s.places) w.sound.tree.earlier br.holds in
         let wa = ka.within in
-        below_lasts _ _ (w.sound.tree.fitting m.left br.below (in_shapes (omega arith)))
+        below_lasts _ _ (w.sound.tree.fitting m.left br.below (in_shapes s.places (omega arith)))
         (ap (λ x. make_sort (shape_at (shapes s.places) x).sort) br.parent ∙ ap make_sort (sort_is s w.sound m.place) ∙ no_make))
         meets.left
 

@@ -3,7 +3,7 @@ use Rattle.std.proofs.Common.{◌≡◌, ℕ, ◌+◌, ◌<◌, ◌≤◌, Bool,
 use Rattle.std.proofs.lemmas.Bool.{false≢true, eqb-true, eqb-false, ltb-false, leb-false, not-false, or_parts}
 use Rattle.std.specs.Option.{option_map}
 use Rattle.faults.specs.declared.OrderFault.TheVariants.{UsedUp}
-use Rattle.order.proofs.Checks.{passing}
+use Rattle.order.proofs.Checks.{passing, still_counted}
 use Rattle.order.specs.Events.{Told, birth, make, target, death, post, await}
 use Rattle.order.specs.Meaning.{last_number}
 use Rattle.makes.specs.Machine.{Build, found, lives_in, home_of, parent_home, born, born_at, with_step, turned_make, declared, died, birth_checks, birth_from, make_checks, make_from, target_checks, target_from, death_from, tell_make_order}
@@ -33,10 +33,6 @@ pub data Did (s : Build) : Told → Build → Type 0 where
 abbrev pub Done : Build → Told → Build → Type 0
 Done s e u = Did s e u × Later s u
 
--- the number after a call that was not refused for it
-counted_on : (n : ℕ) → n ≤ last_number → eqb n last_number ≡ false → n + 1 ≤ last_number
-counted_on n v e = let ne = eqb-false n last_number e in omega arith
-
 module _ (s : Build) (sound : Sound s) where
   parent_found : (q : ℕ) → IfSome (parent_home s q) (Parent s q)
   parent_found q = go (eqb q 0) refl
@@ -61,7 +57,7 @@ module _ (s : Build) (sound : Sound s) where
   birth_did p q t (Some h) parent =
       passing (Done s (birth p q t)) (birth_checks s p h t) (Ok (born s p h t)) (λ passed. go (eqb t 0) refl
       (nobody_lives p (or_parts (eqb p 0) (lives_in s p) passed.0).1) passed.1.0 passed.1.1.0 (leb-false _ _ passed.1.1.1.0)
-      (counted_on s.number sound.number passed.1.1.1.1.0))
+      (still_counted s.number sound.number passed.1.1.1.1.0))
     where
       go : (b : Bool) → eqb t 0 ≡ b → Nobody s.births p
           → (not b && not (is_make (kind_at s.places h))) ≡ false → ltb (targets_of (kind_at s.places h)) t ≡ false → length s.births < s.room.births → s.number + 1 ≤ last_number
@@ -80,7 +76,7 @@ module _ (s : Build) (sound : Sound s) where
   make_did p None h = tt
   make_did p (Some i) f =
       passing (Done s (make p)) (make_checks s (birth_at s.births i).at) (Ok (turned_make s i)) (λ passed.
-      let more = counted_on s.number sound.number passed.1.1.1.0 in
+      let more = still_counted s.number sound.number passed.1.1.1.0 in
       (did_make f passed.0, turned_later s sound more i f.within f.live passed.0 (leb-false _ _ passed.1.0) (leb-false _ _ passed.1.1.0)))
 
   target_did : (p : ℕ) (ks : List ℕ) (o : Option ℕ) → MatchOption o (Nobody s.births p) (λ i. Found s.births p i) → IfOk (target_from s ks (option_map (λ i. (birth_at s.births i).at) o)) (Done s (target p ks))
@@ -88,7 +84,7 @@ module _ (s : Build) (sound : Sound s) where
   target_did p ks (Some i) f =
       let h = (birth_at s.births i).at in
       passing (Done s (target p ks)) (target_checks s (birth_at s.births i).at ks) (Ok (declared s (birth_at s.births i).at ks)) (λ passed.
-      let more = counted_on s.number sound.number passed.1.1.1.0 in
+      let more = still_counted s.number sound.number passed.1.1.1.0 in
       let within = home_within s sound h (inr (i, f.within, f.live, refl)) in
       let is = not-false _ passed.0 in
       let all = not-false _ passed.1.0 in
@@ -99,7 +95,7 @@ module _ (s : Build) (sound : Sound s) where
   death_did p None h = tt
   death_did p (Some i) f =
       passing (Done s (death p)) ((eqb s.number last_number, UsedUp) ∷ []) (Ok (died s i)) (λ passed.
-      (did_death f, died_later s sound (counted_on s.number sound.number passed.0) i f.within f.live))
+      (did_death f, died_later s sound (still_counted s.number sound.number passed.0) i f.within f.live))
 
   pub event_did : (e : Told) → IfOk (tell_make_order s e) (Done s e)
   event_did (birth p q t) = birth_did p q t (parent_home s q) (parent_found q)

@@ -9,16 +9,21 @@ use Rattle.order.specs.Runs.{Call, tell, stamp}
 use Rattle.makes.specs.declared.places.Place.{Place}
 use Rattle.makes.specs.Machine.{Build, lives_in, born_at, with_step, turned_make, declared, died, counted, slots_from, target_at}
 use Rattle.makes.specs.Order.{make_machine}
-use Rattle.makes.specs.Places.{make as a_make, make_sort, is_make, targets_of, kind_at, Shape, shape, shapes, shape_at, parents_of, counts, stand, birth_at}
+use Rattle.makes.specs.Places.{make as a_make, make_sort, is_make, targets_of, kind_at, Shape, shapes, shape_at, parents_of, counts, stand, birth_at}
 use Rattle.makes.specs.Runs.{next_place, place_in, make_in, is_place, the, targets_in, target_in}
 use Rattle.makes.specs.Sound.{Sound}
 use Rattle.makes.specs.Entries.{more_shapes, more_counts, stand_within, stand_is_stand}
 use Rattle.makes.specs.Found.{Found, Nobody, live_decides}
+use Rattle.makes.specs.Deaths.{died_shapes, died_counts}
 use Rattle.makes.specs.Later.{Later}
 use Rattle.makes.specs.Lodgers.{birth_cases, set_cases}
 use Rattle.makes.proofs.RunsEvents.{Parent, parent_home_is}
-use Rattle.makes.proofs.RunsPlaces.{new_step, new_make, new_target, step_shapes, make_shapes, target_shapes, death_shapes, step_counts, make_counts, death_counts, target_count_own, target_count_other, Standing, Follows, stand_shape, own_shape, standing_on, stands_no_make, size, found_stands, housed, found_make, parent_make, parent_within, parent_place, target_told, more_sorts, more_parents, new_shape, newest_stand, newest_own, counted_more, slotted_on, declared_on}
-use Rattle.makes.specs.Shapes.{shape_is, count_is, is_make_sort}
+use Rattle.makes.proofs.RunsPlaces.{new_step, new_make, new_target, step_shapes, make_shapes, target_shapes, step_counts, make_counts, target_count_own, target_count_other, Standing, Follows, stand_shape, own_shape, standing_on, stands_no_make, size, found_stands, housed, found_make, parent_make, parent_within, parent_place, target_told, more_sorts, more_parents, new_shape, newest_stand, newest_own, counted_more, slotted_on, declared_on}
+use Rattle.makes.specs.Shapes.{shape_is, in_shapes, count_is, make_shape}
+
+-- a birth leaves the other processes where they are
+others_stay : (calls : List Call) (p q t x : ℕ) → (p ≡ x → ⊥) → (place_in (tell (birth p q t) ∷ calls) x ≡ place_in calls x) × (make_in (tell (birth p q t) ∷ calls) x ≡ make_in calls x)
+others_stay calls p q t x ne = (cond-false (eqb p x) _ _ (ne_eqb p x ne), cond-false (eqb p x) _ _ (ne_eqb p x ne))
 
 -- A process born where its parent stands.
 module _ {calls : List Call} (s : Build) (f : Follows calls s) (sound : Sound s) (p q t h : ℕ) (none_named : eqb t 0 ≡ true) (parent : Parent s q h) (nobody : Nobody s.births p) where
@@ -26,9 +31,6 @@ module _ {calls : List Call} (s : Build) (f : Follows calls s) (sound : Sound s)
   born_state = born_at s p s.places (stand s.places h)
 
   module _ (later : Later s (born_at s p s.places (stand s.places h))) (taken : EventTaken make_machine s (birth p q t) (born_at s p s.places (stand s.places h))) where
-    other_place : (x : ℕ) → (p ≡ x → ⊥) → (place_in (tell (birth p q t) ∷ calls) x ≡ place_in calls x) × (make_in (tell (birth p q t) ∷ calls) x ≡ make_in calls x)
-    other_place x ne = (cond-false (eqb p x) _ _ (ne_eqb p x ne), cond-false (eqb p x) _ _ (ne_eqb p x ne))
-
     own_stand : Standing (tell (birth p q t) ∷ calls) born_state.places p (stand s.places h)
     own_stand =
         let home = stand s.places h in
@@ -56,13 +58,13 @@ module _ {calls : List Call} (s : Build) (f : Follows calls s) (sound : Sound s)
               birth_cases s.births (record { process = p; at = home; live = true }) (λ i y. y.live ≡ true → Standing after born_state.places y.process y.at)
               (λ i w l.
               let w' : Found s.births (birth_at s.births i).process i = record { within = w; live = l; process = refl } in
-              let on = other_place (birth_at s.births i).process (λ e. nobody i (record { within = w; live = l; process = sym e })) in
+              let on = others_stay calls p q t (birth_at s.births i).process (λ e. nobody i (record { within = w; live = l; process = sym e })) in
               standing_on {s = s} {t = born_state} later (housed f sound w') on.0 on.1 (f.living i w l))
               (λ l. own_stand);
           nobody = λ x e.
               let both = or_parts (eqb p x) (lives_in s x) (sym (taken.lives x) ∙ e) in
               let was = f.nobody x both.1 in
-              let on = other_place x (eqb-false p x both.0) in
+              let on = others_stay calls p q t x (eqb-false p x both.0) in
               (on.0 ∙ was.0, on.1 ∙ was.1);
           declared = declared_on s born_state f later same_counts;
           slotted = slotted_on s born_state f later same_counts refl refl;
@@ -75,9 +77,6 @@ module _ {calls : List Call} (s : Build) (f : Follows calls s) (sound : Sound s)
   step_state = born_at s p (with_step s h t) (length s.places)
 
   module _ (later : Later s (born_at s p (with_step s h t) (length s.places))) (taken : EventTaken make_machine s (birth p q t) (born_at s p (with_step s h t) (length s.places))) where
-    others : (x : ℕ) → (p ≡ x → ⊥) → (place_in (tell (birth p q t) ∷ calls) x ≡ place_in calls x) × (make_in (tell (birth p q t) ∷ calls) x ≡ make_in calls x)
-    others x ne = (cond-false (eqb p x) _ _ (ne_eqb p x ne), cond-false (eqb p x) _ _ (ne_eqb p x ne))
-
     pub step_parent : target_at s h t ≡ target_in calls (the (make_in calls q)) t
     step_parent =
         let ne = eqb-false t 0 named in
@@ -97,7 +96,7 @@ module _ {calls : List Call} (s : Build) (f : Follows calls s) (sound : Sound s)
               birth_cases s.births (record { process = p; at = home; live = true }) (λ i y. y.live ≡ true → Standing after step_state.places y.process y.at)
               (λ i w l.
               let w' : Found s.births (birth_at s.births i).process i = record { within = w; live = l; process = refl } in
-              let on = others (birth_at s.births i).process (λ e. nobody i (record { within = w; live = l; process = sym e })) in
+              let on = others_stay calls p q t (birth_at s.births i).process (λ e. nobody i (record { within = w; live = l; process = sym e })) in
               standing_on {s = s} {t = step_state} later (housed f sound w') on.0 on.1 (f.living i w l))
               (λ l. record {
                 place =
@@ -108,7 +107,7 @@ module _ {calls : List Call} (s : Build) (f : Follows calls s) (sound : Sound s)
           nobody = λ x e.
               let both = or_parts (eqb p x) (lives_in s x) (sym (taken.lives x) ∙ e) in
               let was = f.nobody x both.1 in
-              let on = others x (eqb-false p x both.0) in
+              let on = others_stay calls p q t x (eqb-false p x both.0) in
               (on.0 ∙ was.0, on.1 ∙ was.1);
           declared = declared_on s step_state f later same_counts;
           slotted = slotted_on s step_state f later same_counts refl refl;
@@ -171,11 +170,11 @@ module _ {calls : List Call} (s : Build) (f : Follows calls s) (sound : Sound s)
     pub death_follows : Follows (tell (death p) ∷ calls) (died s i)
     death_follows =
         let after = tell (death p) ∷ calls in
-        let same_counts : (x : ℕ) → get_or (counts dead_state.places) x 0 ≡ get_or (counts s.places) x 0 = λ x. ap (λ cs. get_or cs x 0) (death_counts s i) in
+        let same_counts : (x : ℕ) → get_or (counts dead_state.places) x 0 ≡ get_or (counts s.places) x 0 = λ x. ap (λ cs. get_or cs x 0) (died_counts s i) in
         record {
           counted = counted_more s dead_state f later;
-          sorts = ap (map (λ (z : Shape). z.sort)) (death_shapes s i) ∙ f.sorts;
-          tree = ap parents_of (death_shapes s i) ∙ f.tree;
+          sorts = ap (map (λ (z : Shape). z.sort)) (died_shapes s i) ∙ f.sorts;
+          tree = ap parents_of (died_shapes s i) ∙ f.tree;
           living =
               set_cases s.births i (record { process = (birth_at s.births i).process; at = (birth_at s.births i).at; live = false }) own.within (λ j z. z.live ≡ true → Standing after dead_state.places z.process z.at)
               (λ j w ne l.
@@ -217,9 +216,6 @@ module _ {calls : List Call} (s : Build) (f : Follows calls s) (sound : Sound s)
   pub declarer : make_in calls p ≡ Some h
   declarer = found_make f sound own at makes
 
-  h_make : (shape_at (shapes s.places) h).sort ≡ a_make
-  h_make = is_make_sort _ (ap make_sort (ap (λ (y : Shape). y.sort) (shape_is s.places h)) ∙ makes)
-
   -- the targets of the make h, and of the others
   own_targets : targets_in (tell (target p ks) ∷ calls) h ≡ targets_in calls h ++ next_place calls ∷ []
   own_targets = cond-true _ _ _ (ap (λ o. is_place o h) declarer ∙ eq-eqb h h refl)
@@ -236,12 +232,9 @@ module _ {calls : List Call} (s : Build) (f : Follows calls s) (sound : Sound s)
       ap (λ o. o * s.room.targets + targets_of (kind_at s.places h)) (sym (ap (λ (y : Shape). y.ordinal) (shape_is s.places h)))
       ∙ ap (λ c. (shape_at (shapes s.places) h).ordinal * s.room.targets + c) (sym (count_is s.places h))
 
-  in_tree : {m : ℕ} → m < length s.places → m < length (shapes s.places)
-  in_tree w = let z = length-map s.places shape in omega arith
-
   slot_within : slot < length s.slots
   slot_within =
-      let o = sound.slots.ordinal h (in_tree h_within) h_make in
+      let o = sound.slots.ordinal h (in_shapes s.places h_within) (make_shape s.places h makes) in
       let c = sound.slots.few h in
       let mk = sound.room.makes in
       let len = sound.room.slots in
@@ -258,7 +251,7 @@ module _ {calls : List Call} (s : Build) (f : Follows calls s) (sound : Sound s)
       let same = e ∙ slot_is in
       let o = sym (div-mul-add (shape_at (shapes s.places) m).ordinal s.room.targets k (omega arith)) ∙ ap (λ n. n / s.room.targets) same
       ∙ div-mul-add (shape_at (shapes s.places) h).ordinal s.room.targets (get_or (counts s.places) h 0) (omega arith) in
-      let m-is = sound.slots.apart m h (in_tree w) (in_tree h_within) makes-m h_make o in
+      let m-is = sound.slots.apart m h (in_shapes s.places w) (in_shapes s.places h_within) makes-m (make_shape s.places h makes) o in
       let c = ap (λ x. get_or (counts s.places) x 0) m-is in
       let d = ap (λ n. n * s.room.targets) o in
       omega (arith, same, d, c, low)
@@ -288,7 +281,7 @@ module _ {calls : List Call} (s : Build) (f : Follows calls s) (sound : Sound s)
         ∙ sym (ap (λ xs. get_or xs k 0) own_targets ∙ get_or_push (targets_in calls h) (next_place calls) 0 k (c ∙ sym last))))
         (λ before.
         slotted_as h k h_within
-        (kept_slot h k h_within h_make (omega arith) ∙ sym (ap (λ xs. get_or xs k 0) own_targets ∙ get_or_append_left (targets_in calls h) (next_place calls ∷ []) 0 k (omega arith))))
+        (kept_slot h k h_within (make_shape s.places h makes) (omega arith) ∙ sym (ap (λ xs. get_or xs k 0) own_targets ∙ get_or_append_left (targets_in calls h) (next_place calls ∷ []) 0 k (omega arith))))
         (cases_eq k (get_or (counts s.places) h 0))
 
     other_slotted : (m k : ℕ) → (m ≡ h → ⊥) → (shape_at (shapes grown_state.places) m).sort ≡ a_make → k < get_or (counts s.places) m 0 → Slotted m k

@@ -1,43 +1,28 @@
 -- Over a run, processes, places, starts and ends are in order.
-use Rattle.std.proofs.Common.{◌≡◌, ℕ, ◌+◌, ◌<◌, ◌≤◌, Bool, true, cond, eqb, ◌⊎◌, List, [], ◌∷◌, length, get_or, is_some, Some, None, Decides, count_by, sym, refl, ap, ◌∙◌, subst, inl, inr, ⊎_elim, arith}
+use Rattle.std.proofs.Common.{◌≡◌, ℕ, ◌<◌, ◌≤◌, true, eqb, ◌⊎◌, List, length, get_or, is_some, Some, None, Decides, count_by, sym, refl, ap, ◌∙◌, subst, inl, inr, ⊎_elim, arith}
 use Rattle.std.proofs.lemmas.Option.{same_Some}
 use Rattle.std.proofs.lemmas.List.{length-map, get_or_past}
 use Rattle.std.proofs.lemmas.Bool.{false≢true, eqb-true, eq-eqb, cases_eq, cases_lt, cases_Bool}
 use Rattle.order.specs.Runs.{Call, Alive}
-use Rattle.makes.specs.declared.places.Kind.{Kind}
-use Rattle.makes.specs.declared.places.Kind.TheVariants.{Session, Make, Target, Step}
 use Rattle.makes.specs.declared.places.Place.{Place}
 use Rattle.makes.specs.Machine.{Build, lives_in}
-use Rattle.makes.specs.Places.{Sort, session, make as a_make, target as a_target, step, make_sort, stand_sort, sort_of, is_make, is_stand, targets_of, start_of, kind_at, shapes, shape_at, parents, counts, lives, starts, ends, stand, birth_at}
+use Rattle.makes.specs.Places.{Sort, session, make as a_make, target as a_target, step, make_sort, stand_sort, is_make, is_stand, targets_of, kind_at, shapes, shape_at, parents, counts, lives, starts, ends, stand, birth_at}
 use Rattle.makes.specs.Runs.{sorts_in, sort_in, next_place, place_in, make_in, targets_in, parents_in, Peopled, Starts, Ended, Orderly}
 use Rattle.makes.specs.Sound.{fits_below, lasting, TargetOf}
 use Rattle.makes.specs.Tree.{up, Holds, line, levels}
 use Rattle.makes.specs.Entries.{stand_within, stand_is_stand}
 use Rattle.makes.specs.Found.{live_decides}
 use Rattle.makes.specs.Judging.{sort_is, stand_step, held_started}
-use Rattle.makes.specs.Later.{up_shape}
+use Rattle.makes.specs.Later.{step_started, some_of, up_shape}
 use Rattle.makes.proofs.Asked.{targets_make}
-use Rattle.makes.proofs.RunsPeopled.{own_home, found_placed, found_made, stand_above, in_shapes, peopled_to, peopled_from}
+use Rattle.makes.proofs.RunsPeopled.{own_home, found_placed, found_made, stand_above, peopled_to, peopled_from}
 use Rattle.makes.proofs.RunsPlaces.{size, sort_told, found_stands}
-use Rattle.makes.proofs.RunsTimes.{is_there}
 use Rattle.makes.proofs.RunsWhole.{Whole}
-use Rattle.makes.specs.Shapes.{count_is, count_by_cons, levels_few, is_make_sort}
+use Rattle.makes.specs.Shapes.{in_shapes, count_is, levels_few, is_make_sort, make_shape}
 use Rattle.makes.specs.Views.{start_is}
-
--- each step has its start
-step_start : (k : Kind) → sort_of k ≡ step → is_some (start_of k) ≡ true
-step_start Session e = cc
-step_start (Make m) e = cc
-step_start (Target row) e = cc
-step_start (Step start end) e = refl
 
 session_lasts_not : (k : Sort) → k ≡ session → lasting k ≡ true → ⊥
 session_lasts_not k e l = false≢true (sym (ap lasting e) ∙ l)
-
--- counts by tests that agree everywhere
-count_agrees : (f g : ℕ → Bool) → ((x : ℕ) → f x ≡ g x) → (xs : List ℕ) → count_by f xs ≡ count_by g xs
-count_agrees f g same [] = refl
-count_agrees f g same (x ∷ xs) = count_by_cons f x xs ∙ (λ i. cond (same x i) 1 0 + count_agrees f g same xs i) ∙ sym (count_by_cons g x xs)
 
 module _ {calls : List Call} {s : Build} (w : Whole calls s) where
   told : (x : ℕ) → sort_in calls x ≡ (shape_at (shapes s.places) x).sort
@@ -47,7 +32,7 @@ module _ {calls : List Call} {s : Build} (w : Whole calls s) where
   pub stand_told : (x : ℕ) → x < length s.places → is_stand (kind_at s.places x) ≡ true → (x ≡ 0) ⊎ (sort_in calls x ≡ step)
   stand_told x within stands =
       ⊎_elim inl
-      (λ ne. inr (told x ∙ stand_step s w.sound x (omega arith) (in_shapes w.follows w.sound within) (ap stand_sort (sort_is s w.sound x) ∙ stands)))
+      (λ ne. inr (told x ∙ stand_step s w.sound x (omega arith) (in_shapes s.places within) (ap stand_sort (sort_is s w.sound x) ∙ stands)))
       (cases_eq x 0)
 
   -- what has a sort that lasts is in the table
@@ -84,8 +69,8 @@ module _ {calls : List Call} {s : Build} (w : Whole calls s) where
       let l = length-map s.places (λ (y : Place). targets_of y.kind) in
       let within : m < length s.places =
       ⊎_elim (λ h. h) (λ past. let z = get_or_past (counts s.places) m 0 (omega arith) in absurd (omega arith)) (cases_lt m (length s.places)) in
-      let sort = is_make_sort _ (ap make_sort (sort_is s w.sound m) ∙ targets_make (kind_at s.places m) (omega arith)) in
-      let t = subst (TargetOf (shapes s.places) m) (w.follows.slotted m k within sort (omega arith)) (w.sound.slots.slotted m k (in_shapes w.follows w.sound within) sort (omega arith)) in
+      let sort = make_shape s.places m (targets_make (kind_at s.places m) (omega arith)) in
+      let t = subst (TargetOf (shapes s.places) m) (w.follows.slotted m k within sort (omega arith)) (w.sound.slots.slotted m k (in_shapes s.places within) sort (omega arith)) in
       let y = get_or (targets_in calls m) k 0 in
       (told y ∙ t.sort, ap (λ us. up us y) (sym w.follows.tree) ∙ up_shape s.places y ∙ t.parent)
 
@@ -94,13 +79,14 @@ module _ {calls : List Call} {s : Build} (w : Whole calls s) where
       let n = size w.follows w.sound in
       (λ i. fits_below (told x i) (sort_in calls (up (sym w.follows.tree i) x)))
       ∙ ap (fits_below (shape_at (shapes s.places) x).sort) (told (up (parents s.places) x))
-      ∙ w.sound.tree.fitting x p (in_shapes w.follows w.sound (omega arith))
+      ∙ w.sound.tree.fitting x p (in_shapes s.places (omega arith))
 
   shallow_at : (x : ℕ) → x < next_place calls → (count_by (λ y. make_sort (sort_in calls y)) (line (parents_in calls) x) ≤ 16) × (levels (parents_in calls) x ≤ 48)
   shallow_at x low =
       let n = size w.follows w.sound in
-      let within = in_shapes w.follows w.sound (omega arith) in
-      let makes = count_agrees (λ y. make_sort (sort_in calls y)) (λ y. make_sort (shape_at (shapes s.places) y).sort) (λ y. ap make_sort (told y)) (line (parents s.places) x) ∙ w.sound.tree.deep x within in
+      let within : x < length (shapes s.places) = in_shapes s.places (omega arith) in
+      let same : count_by (λ y. make_sort (sort_in calls y)) (line (parents s.places) x) ≡ count_by (λ y. make_sort (shape_at (shapes s.places) y).sort) (line (parents s.places) x) = λ i. count_by (λ y. make_sort (told y i)) (line (parents s.places) x) in
+      let makes = same ∙ w.sound.tree.deep x within in
       let few = w.sound.tree.shallow x within in (
         subst (λ us. count_by (λ y. make_sort (sort_in calls y)) (line us x) ≤ 16) w.follows.tree (omega arith),
         subst (λ us. levels us x ≤ 48) w.follows.tree (levels_few (shapes s.places) w.sound.tree x within),
@@ -108,25 +94,25 @@ module _ {calls : List Call} {s : Build} (w : Whole calls s) where
 
   started_at : (x y : ℕ) → Holds (parents_in calls) x y → lasting (sort_in calls x) ≡ true → sort_in calls y ≡ step → (n : ℕ) × Starts x calls n
   started_at x y held l is-step =
-      let r = is_there (get_or (starts s.places) x None) (by_sort (shape_at (shapes s.places) x).sort refl) in
+      let r = some_of (get_or (starts s.places) x None) (by_sort (shape_at (shapes s.places) x).sort refl) in
       (r.0, w.timed.starts_to x r.0 r.1)
     where
       by_sort : (k : Sort) → (shape_at (shapes s.places) x).sort ≡ k → is_some (get_or (starts s.places) x None) ≡ true
       by_sort session e = absurd (session_lasts_not _ (told x ∙ e) l)
       by_sort a_make e =
           held_started s w.sound x y (subst (λ us. Holds us x y) (sym w.follows.tree) held) e
-          (in_shapes w.follows w.sound (lasting_within y (ap lasting is-step))) (ap stand_sort (sym (told y) ∙ is-step))
+          (in_shapes s.places (lasting_within y (ap lasting is-step))) (ap stand_sort (sym (told y) ∙ is-step))
       by_sort a_target e = absurd (false≢true (sym (ap lasting (told x ∙ e)) ∙ l))
-      by_sort step e = ap is_some (start_is s.places x) ∙ step_start (kind_at s.places x) (sym (sort_is s w.sound x) ∙ e)
+      by_sort step e = ap is_some (start_is s.places x) ∙ step_started (kind_at s.places x) (sym (sort_is s w.sound x) ∙ e)
 
   -- ended exactly if the count is 0
   over_at : (x : ℕ) → lasting (sort_in calls x) ≡ true → is_some (get_or (ends s.places) x None) ≡ eqb (get_or (lives s.places) x 0) 0
-  over_at x l = w.sound.times.over x (in_shapes w.follows w.sound (lasting_within x l)) (lasts x l)
+  over_at x l = w.sound.times.over x (in_shapes s.places (lasting_within x l)) (lasts x l)
 
   ended_or_peopled : (x : ℕ) → lasting (sort_in calls x) ≡ true → ((n : ℕ) × Ended x calls n) ⊎ Peopled calls x
   ended_or_peopled x l =
       ⊎_elim
-      (λ z. let r = is_there _ (over_at x l ∙ eq-eqb _ 0 z) in inl (r.0, w.timed.ends_to x r.0 r.1))
+      (λ z. let r = some_of _ (over_at x l ∙ eq-eqb _ 0 z) in inl (r.0, w.timed.ends_to x r.0 r.1))
       (λ ne. inr (peopled_to w.follows w.sound x (lasting_within x l) (omega arith)))
       (cases_eq (get_or (lives s.places) x 0) 0)
 

@@ -5,7 +5,7 @@ use Rattle.std.proofs.lemmas.List.{length-map}
 use Rattle.std.proofs.lemmas.Bool.{and_parts, cond-true, cond-false, cases_Bool}
 use Rattle.order.specs.Runs.{Call}
 use Rattle.makes.specs.Machine.{Build, lives_in}
-use Rattle.makes.specs.Places.{make_sort, is_make, kind_at, Shape, shape, shapes, parents, lives, stand, birth_at}
+use Rattle.makes.specs.Places.{is_make, kind_at, shape, shapes, parents, lives, stand, birth_at}
 use Rattle.makes.specs.Runs.{place_in, make_in, parents_in, Peopled, below, own}
 use Rattle.makes.specs.Sound.{counts_at, Sound}
 use Rattle.makes.specs.Tree.{up, Holds, itself, under}
@@ -13,7 +13,7 @@ use Rattle.makes.specs.Found.{Found, live_decides}
 use Rattle.makes.specs.Law.{counted_some}
 use Rattle.makes.specs.Lodgers.{lodger_counts}
 use Rattle.makes.proofs.RunsPlaces.{Standing, Follows, found_stands, housed}
-use Rattle.makes.specs.Shapes.{shape_is, above_make, is_make_sort}
+use Rattle.makes.specs.Shapes.{in_shapes, above_make, make_shape}
 use Rattle.makes.specs.TreeLemmas.{holds_decides, holds_le, holds_split}
 use Rattle.makes.specs.Walks.{up_at}
 
@@ -23,9 +23,6 @@ own_home true h x e = (refl, same_Some _ _ e)
 own_home false h x e = absurd (none-some _ e)
 
 module _ {calls : List Call} {s : Build} (f : Follows calls s) (sound : Sound s) where
-  pub in_shapes : {x : ℕ} → x < length s.places → x < length (shapes s.places)
-  in_shapes w = let z = length-map s.places shape in omega arith
-
   -- what the calls tell of a live process, they tell of one that lives
   pub found_placed : {p y : ℕ} → place_in calls p ≡ Some y → (i : ℕ) × Found s.births p i
   found_placed {p} e = ⊎_elim (live_decides s.births p).0 (λ dead. absurd (none-some _ (sym (f.nobody p dead).0 ∙ e))) (cases_Bool (lives_in s p))
@@ -44,8 +41,8 @@ module _ {calls : List Call} {s : Build} (f : Follows calls s) (sound : Sound s)
   stand_holds x h w held =
       ⊎_elim
       (λ makes.
-      let sort = is_make_sort _ (ap make_sort (ap (λ (y : Shape). y.sort) (shape_is s.places h)) ∙ makes) in
-      under (above_make (shapes s.places) sound.tree h (in_shapes w) sort).0 (subst (Holds (parents s.places) x) (stand_above h makes) held))
+      let sort = make_shape s.places h makes in
+      under (above_make (shapes s.places) sound.tree h (in_shapes s.places w) sort).0 (subst (Holds (parents s.places) x) (stand_above h makes) held))
       (λ other. subst (Holds (parents s.places) x) (stand_itself h other) held)
       (cases_Bool (is_make (kind_at s.places h)))
 
@@ -69,7 +66,7 @@ module _ {calls : List Call} {s : Build} (f : Follows calls s) (sound : Sound s)
 
   pub peopled_to : (x : ℕ) → x < length s.places → 0 < get_or (lives s.places) x 0 → Peopled calls x
   peopled_to x w some =
-      let l = sound.births.live x (in_shapes w) in
+      let l = sound.births.live x (in_shapes s.places w) in
       let r = counted_some (counts_at (parents s.places) x) s.births (omega arith) in
       let p = and_parts (birth_at s.births r.0).live _ r.2 in
       home_peoples x (birth_at s.births r.0).process (birth_at s.births r.0).at (f.living r.0 r.1 p.0)
@@ -100,6 +97,6 @@ module _ {calls : List Call} {s : Build} (f : Follows calls s) (sound : Sound s)
   peopled_from x on =
       let r = peopled_home x on in
       let w = peopled_within x on in
-      let l = sound.births.live x (in_shapes w) in
+      let l = sound.births.live x (in_shapes s.places w) in
       let c = lodger_counts (parents s.places) s.births x r.0 r.1 r.2 ((holds_decides (parents s.places) sound.tree.earlier x (birth_at s.births r.0).at).1 r.3) in
       omega arith

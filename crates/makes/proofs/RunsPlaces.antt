@@ -6,19 +6,18 @@ use Rattle.order.specs.Runs.{Call}
 use Rattle.makes.specs.declared.places.Kind.TheVariants.{Make, Target, Step}
 use Rattle.makes.specs.declared.places.Status.TheVariants.{Unstarted}
 use Rattle.makes.specs.declared.places.Place.{Place}
-use Rattle.makes.specs.Machine.{Build, lives_in, born_at, with_step, turned_make, declared, died, target_at}
-use Rattle.makes.specs.Places.{Sort, session, make as a_make, target as a_target, step, make_sort, stand_sort, is_make, targets_of, kind_begun, kind_declared, with_kind, one_less, no_place, place_at, kind_at, Shape, shape, shapes, shape_at, parents_of, parents, counts, stand, birth_at}
+use Rattle.makes.specs.Machine.{Build, lives_in, born_at, with_step, turned_make, declared, target_at}
+use Rattle.makes.specs.Places.{Sort, session, make as a_make, target as a_target, step, make_sort, stand_sort, is_make, targets_of, kind_begun, kind_declared, with_kind, no_place, place_at, kind_at, Shape, shape, shapes, shape_at, parents_of, parents, counts, stand, birth_at}
 use Rattle.makes.specs.Runs.{sorts_in, sort_in, next_place, place_in, make_in, targets_in, target_in, parents_in}
 use Rattle.makes.specs.Sound.{Sound}
-use Rattle.makes.specs.Tree.{line}
 use Rattle.makes.specs.Entries.{more_shapes, more_counts}
 use Rattle.makes.specs.Found.{Found}
 use Rattle.makes.specs.Later.{Later}
 use Rattle.makes.proofs.RunsEvents.{Parent}
-use Rattle.makes.specs.Shapes.{shape_is, count_is, changed_same, shape_new, is_make_sort}
-use Rattle.makes.specs.Slots.{count_more}
-use Rattle.makes.specs.Sorts.{begun_shape, begun_targets, declared_shape, declared_targets, less_targets}
-use Rattle.makes.specs.Walks.{map_set_same, less_shape}
+use Rattle.makes.specs.Shapes.{shape_is, count_is, shape_new, make_shape}
+use Rattle.makes.specs.Slots.{default_more}
+use Rattle.makes.specs.Sorts.{begun_shape, begun_targets, declared_shape, declared_targets}
+use Rattle.makes.specs.Walks.{map_set_same}
 
 -- the new place of each event that makes one
 abbrev pub new_step : Build → ℕ → ℕ → Place
@@ -66,9 +65,6 @@ module _ (s : Build) where
       map_push shape (set s.places m (grown_place m)) (new_target s m)
       ∙ ap (λ ts. ts ++ shape (new_target s m) ∷ []) (map_set_same shape s.places m (grown_place m) no_place (declared_shape 0 (place_at s.places m) (kind_at s.places m)))
 
-  pub death_shapes : (i : ℕ) → shapes (died s i).places ≡ shapes s.places
-  death_shapes i = changed_same shape (one_less (s.number + 1)) (less_shape (s.number + 1)) s.places (line (parents s.places) (birth_at s.births i).at)
-
   -- how many targets each make has
   pub step_counts : (p m t x : ℕ) → get_or (counts (born_at s p (with_step s m t) (length s.places)).places) x 0 ≡ get_or (counts s.places) x 0
   unfolding begun_place
@@ -77,13 +73,10 @@ module _ (s : Build) where
       (more_counts (with_step s m t) (length s.places)
       ∙ map_push (λ (y : Place). targets_of y.kind) (set s.places m (begun_place m)) (new_step s m t)
       ∙ ap (λ cs. cs ++ 0 ∷ []) (map_set_same (λ (y : Place). targets_of y.kind) s.places m (begun_place m) no_place (begun_targets (s.number + 1) (kind_at s.places m))))
-      ∙ count_more (counts s.places) x
+      ∙ default_more (counts s.places) 0 x
 
   pub make_counts : (i x : ℕ) → get_or (counts (turned_make s i).places) x 0 ≡ get_or (counts s.places) x 0
-  make_counts i x = ap (λ cs. get_or cs x 0) (map_push (λ (y : Place). targets_of y.kind) s.places (new_make s i)) ∙ count_more (counts s.places) x
-
-  pub death_counts : (i : ℕ) → counts (died s i).places ≡ counts s.places
-  death_counts i = changed_same (λ (p : Place). targets_of p.kind) (one_less (s.number + 1)) (less_targets (s.number + 1)) s.places (line (parents s.places) (birth_at s.births i).at)
+  make_counts i x = ap (λ cs. get_or cs x 0) (map_push (λ (y : Place). targets_of y.kind) s.places (new_make s i)) ∙ default_more (counts s.places) 0 x
 
   -- a new target of the make m
   module _ (m : ℕ) (ks : List ℕ) (within : m < length s.places) (makes : is_make (kind_at s.places m) ≡ true) where
@@ -97,12 +90,12 @@ module _ (s : Build) where
     pub target_count_own : get_or (counts (declared s m ks).places) m 0 ≡ get_or (counts s.places) m 0 + 1
     target_count_own =
         let n = length-map s.places (λ (y : Place). targets_of y.kind) in
-        ap (λ cs. get_or cs m 0) target_counts ∙ count_more (set (counts s.places) m (get_or (counts s.places) m 0 + 1)) m
+        ap (λ cs. get_or cs m 0) target_counts ∙ default_more (set (counts s.places) m (get_or (counts s.places) m 0 + 1)) 0 m
         ∙ get_or-set_same (counts s.places) m (get_or (counts s.places) m 0 + 1) 0 (omega arith)
 
     pub target_count_other : (x : ℕ) → (x ≡ m → ⊥) → get_or (counts (declared s m ks).places) x 0 ≡ get_or (counts s.places) x 0
     target_count_other x ne =
-        ap (λ cs. get_or cs x 0) target_counts ∙ count_more (set (counts s.places) m (get_or (counts s.places) m 0 + 1)) x
+        ap (λ cs. get_or cs x 0) target_counts ∙ default_more (set (counts s.places) m (get_or (counts s.places) m 0 + 1)) 0 x
         ∙ get_or-set_other (counts s.places) m x (get_or (counts s.places) m 0 + 1) 0 ne
 
 -- the make that a process with this home is
@@ -195,7 +188,7 @@ module _ {calls : List Call} {s : Build} (f : Follows calls s) (sound : Sound s)
   target_told m k within makes low high =
       let c = count_is s.places m in
       ap (λ o. get_or s.slots (o * s.room.targets + (k - 1)) 0) (sym (ap (λ (y : Shape). y.ordinal) (shape_is s.places m)))
-      ∙ f.slotted m (k - 1) within (is_make_sort _ (ap make_sort (ap (λ (y : Shape). y.sort) (shape_is s.places m)) ∙ makes)) (omega arith)
+      ∙ f.slotted m (k - 1) within (make_shape s.places m makes) (omega arith)
 
 -- One call more.
 module _ {calls : List Call} (s t : Build) (f : Follows calls s) (later : Later s t) where

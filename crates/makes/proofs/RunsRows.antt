@@ -8,18 +8,19 @@ use Rattle.order.specs.Events.{birth, make, target, death, post, await}
 use Rattle.order.specs.Runs.{Call, tell, stamp}
 use Rattle.makes.specs.declared.places.Place.{Place}
 use Rattle.makes.specs.Machine.{Build, born_at, with_step, turned_make, declared, died, counted, slots_from, target_at, rows_of}
-use Rattle.makes.specs.Places.{make as a_make, target as a_target, step, make_sort, is_make, targets_of, kind_at, Shape, shape, shapes, shape_at, stand, birth_at, all_declared, row_in}
+use Rattle.makes.specs.Places.{target as a_target, is_make, targets_of, kind_at, Shape, shape, shapes, shape_at, stand, birth_at, all_declared, row_in}
 use Rattle.makes.specs.Rows.{needs, joined_row}
 use Rattle.makes.specs.Runs.{make_in, target_in, Names, named_now, named_before, Prerequisite, directly, through}
 use Rattle.makes.specs.Sound.{Sound, TargetOf}
 use Rattle.makes.specs.Entries.{more_shapes}
 use Rattle.makes.specs.Found.{Found}
 use Rattle.makes.specs.Joins.{reaches, needs_old, needs_new}
+use Rattle.makes.specs.Deaths.{died_shapes}
 use Rattle.makes.specs.Later.{Later}
 use Rattle.makes.proofs.Asked.{declared_at}
 use Rattle.makes.proofs.RunsFollows.{declarer}
-use Rattle.makes.proofs.RunsPlaces.{Follows, more_size, new_shape, size, housed, target_told, new_step, new_make, new_target, step_shapes, make_shapes, target_shapes, death_shapes}
-use Rattle.makes.specs.Shapes.{shape_is, count_is, is_make_sort}
+use Rattle.makes.proofs.RunsPlaces.{Follows, more_size, new_shape, size, housed, target_told, new_step, new_make, new_target, step_shapes, make_shapes, target_shapes}
+use Rattle.makes.specs.Shapes.{shape_is, count_is, make_shape, make_target, step_target}
 
 -- x is the place of a target
 pub record TargetPlace (s : Build) (x : ℕ) : Type 0 where
@@ -136,12 +137,6 @@ module _ (s t : Build) (y : Place) (e : shapes t.places ≡ shapes s.places ++ s
   no_target other x h =
       ⊎_elim (λ w. w) (λ new. absurd (other (sym (ap (λ (z : Shape). z.sort) (ap (shape_at (shapes t.places)) new ∙ new_shape s t y e)) ∙ h.sort))) (old_or_new x h)
 
-make_no_target : a_make ≡ a_target → ⊥
-make_no_target e = cc
-
-step_no_target : step ≡ a_target → ⊥
-step_no_target e = cc
-
 module _ {calls : List Call} (s : Build) (rowed : Rowed calls s) where
   pub born_rowed : (p q t h : ℕ) → Later s (born_at s p s.places (stand s.places h)) → Rowed (tell (birth p q t) ∷ calls) (born_at s p s.places (stand s.places h))
   born_rowed p q t h later =
@@ -152,14 +147,14 @@ module _ {calls : List Call} (s : Build) (rowed : Rowed calls s) where
   pub step_rowed : (p q t h : ℕ) → Later s (born_at s p (with_step s h t) (length s.places)) → Rowed (tell (birth p q t) ∷ calls) (born_at s p (with_step s h t) (length s.places))
   step_rowed p q t h later =
       let u = born_at s p (with_step s h t) (length s.places) in
-      undeclared (tell (birth p q t)) s u rowed later refl (no_target s u (new_step s h t) (step_shapes s p h t) step_no_target) tt
+      undeclared (tell (birth p q t)) s u rowed later refl (no_target s u (new_step s h t) (step_shapes s p h t) step_target) tt
 
   pub make_rowed : (p i : ℕ) → Later s (turned_make s i) → Rowed (tell (make p) ∷ calls) (turned_make s i)
-  make_rowed p i later = undeclared (tell (make p)) s (turned_make s i) rowed later refl (no_target s (turned_make s i) (new_make s i) (make_shapes s i) make_no_target) tt
+  make_rowed p i later = undeclared (tell (make p)) s (turned_make s i) rowed later refl (no_target s (turned_make s i) (new_make s i) (make_shapes s i) make_target) tt
 
   pub death_rowed : (p i : ℕ) → Later s (died s i) → Rowed (tell (death p) ∷ calls) (died s i)
   death_rowed p i later =
-      let n = same_size s (died s i) (death_shapes s i) in
+      let n = same_size s (died s i) (died_shapes s i) in
       undeclared (tell (death p)) s (died s i) rowed later refl (λ x w. let l = w.within in omega arith) tt
 
   pub stamp_rowed : (p : ℕ) → Later s (counted s) → Rowed (stamp p ∷ calls) (counted s)
@@ -215,7 +210,7 @@ module _ {calls : List Call} (s : Build) (f : Follows calls s) (sound : Sound s)
         let hi = d.1 in
         let c = count_is s.places h in
         let z = length-map s.places shape in
-        let sort-h = is_make_sort _ (ap make_sort (ap (λ (y : Shape). y.sort) (shape_is s.places h)) ∙ makes) in
+        let sort-h = make_shape s.places h makes in
         let t = subst (λ o. TargetOf (shapes s.places) h (get_or s.slots (o * s.room.targets + (get_or ks j 0 - 1)) 0)) (ap (λ (y : Shape). y.ordinal) (shape_is s.places h))
         (sound.slots.slotted h (get_or ks j 0 - 1) (omega arith) sort-h (omega arith)) in
         record { within = let w = t.within in omega arith; sort = t.sort }

@@ -1,5 +1,5 @@
 -- Over a run, the starts and ends in the state are those that the calls tell.
-use Rattle.std.proofs.Common.{◌≡◌, ℕ, zero, suc, ◌+◌, ◌<◌, true, false, eqb, ◌⊎◌, List, [], ◌∷◌, ◌++◌, length, get_or, set, is_some, Some, None, Option, sym, refl, ap, ◌∙◌, subst, inl, inr, ⊎_elim, add-one, arith}
+use Rattle.std.proofs.Common.{◌≡◌, ℕ, suc, ◌+◌, ◌<◌, true, false, eqb, ◌⊎◌, List, [], ◌∷◌, ◌++◌, length, get_or, set, is_some, Some, None, Option, sym, refl, ap, ◌∙◌, subst, inl, inr, ⊎_elim, add-one, arith}
 use Rattle.std.proofs.lemmas.Option.{none-some, same_Some}
 use Rattle.std.proofs.lemmas.List.{length-map, length-set, map_push, map-set, get_or_push, get_or_past, get_or_append_left, get_or-set_same, get_or-set_other}
 use Rattle.std.proofs.lemmas.Bool.{false≢true, eqb-true, eqb-false, eq-eqb, ne_eqb, cases_eq, cases_lt, cases_order}
@@ -9,17 +9,18 @@ use Rattle.makes.specs.declared.places.Kind.{Kind}
 use Rattle.makes.specs.declared.places.Kind.TheVariants.{Session, Make, Target, Step}
 use Rattle.makes.specs.declared.places.Place.{Place}
 use Rattle.makes.specs.Machine.{Build, born_at, with_step, turned_make, declared, died, counted}
-use Rattle.makes.specs.Places.{make as a_make, step, make_sort, sort_of, is_make, start_of, end_of, kind_begun, kind_declared, with_kind, one_less, no_place, place_at, kind_at, Shape, shape, shapes, shape_at, parents, lives, starts, ends, stand, birth_at}
+use Rattle.makes.specs.Places.{make as a_make, step, sort_of, is_make, start_of, end_of, kind_begun, kind_declared, with_kind, no_place, place_at, kind_at, Shape, shape, shapes, shape_at, lives, starts, ends, stand}
 use Rattle.makes.specs.Runs.{make_in, Peopled, own, Begun, begun_now, begun_before, Starts, step_born, first_step, started_before, Ended, last_death, ended_before}
 use Rattle.makes.specs.Sound.{lasting, Sound}
-use Rattle.makes.specs.Tree.{line}
 use Rattle.makes.specs.Entries.{more_starts, more_ends}
-use Rattle.makes.specs.Later.{Later}
+use Rattle.makes.specs.Deaths.{died_starts}
+use Rattle.makes.specs.Later.{Later, some_of}
 use Rattle.makes.proofs.RunsEvents.{Parent}
 use Rattle.makes.proofs.RunsPeopled.{peopled_to, peopled_from, peopled_within}
 use Rattle.makes.proofs.RunsPlaces.{Follows, more_size, new_shape, size, parent_make, parent_within, new_step, new_make, new_target, step_shapes}
-use Rattle.makes.specs.Shapes.{shape_is, changed_same, is_make_sort}
-use Rattle.makes.specs.Sorts.{begun_end, begun_start, begun_some, declared_start, declared_end, less_start}
+use Rattle.makes.specs.Shapes.{shape_is, make_shape, step_make}
+use Rattle.makes.specs.Slots.{default_more}
+use Rattle.makes.specs.Sorts.{begun_end, begun_start, begun_some, declared_start, declared_end}
 use Rattle.makes.specs.Views.{start_is, end_is}
 use Rattle.makes.specs.Walks.{map_set_same}
 
@@ -33,22 +34,13 @@ pub record Timed (calls : List Call) (s : Build) : Type 0 where
   pub ends_from : (x n : ℕ) → lasting (shape_at (shapes s.places) x).sort ≡ true → Ended x calls n → get_or (ends s.places) x None ≡ Some n
   pub ends_within : (x n : ℕ) → Ended x calls n → x < length s.places
 
-none_more : (xs : List (Option ℕ)) (x : ℕ) → get_or (xs ++ None ∷ []) x None ≡ get_or xs x None
-none_more [] zero = refl
-none_more [] (suc x) = refl
-none_more (y ∷ ys) zero = refl
-none_more (y ∷ ys) (suc x) = none_more ys x
-
-step_no_make : step ≡ a_make → ⊥
-step_no_make e = cc
+-- the number of the next call
+next_number : {calls : List Call} {s : Build} → Follows calls s → s.number + 1 ≡ suc (length calls)
+next_number {s = s} f = add-one s.number ∙ ap suc f.counted
 
 -- what is there is within the list
 some_within : (xs : List (Option ℕ)) (x n : ℕ) → get_or xs x None ≡ Some n → x < length xs
 some_within xs x n e = ⊎_elim (λ h. h) (λ past. absurd (none-some _ (sym (get_or_past xs x None past) ∙ e))) (cases_lt x (length xs))
-
-pub is_there : (o : Option ℕ) → is_some o ≡ true → (n : ℕ) × (o ≡ Some n)
-is_there None e = absurd (false≢true e)
-is_there (Some n) e = (n, refl)
 
 not_there : (o : Option ℕ) → is_some o ≡ false → o ≡ None
 not_there None e = refl
@@ -133,8 +125,8 @@ module _ {calls : List Call} (s : Build) (timed : Timed calls s) where
   pub make_timed : (p i : ℕ) → Later s (turned_make s i) → Timed (tell (make p) ∷ calls) (turned_make s i)
   make_timed p i later =
       quiet (tell (make p)) s (turned_make s i) timed later tt
-      (λ y. ap (λ zs. get_or zs y None) (map_push (λ (z : Place). start_of z.kind) s.places (new_make s i)) ∙ none_more (starts s.places) y)
-      (λ y. ap (λ zs. get_or zs y None) (map_push (λ (z : Place). end_of z.kind) s.places (new_make s i)) ∙ none_more (ends s.places) y)
+      (λ y. ap (λ zs. get_or zs y None) (map_push (λ (z : Place). start_of z.kind) s.places (new_make s i)) ∙ default_more (starts s.places) None y)
+      (λ y. ap (λ zs. get_or zs y None) (map_push (λ (z : Place). end_of z.kind) s.places (new_make s i)) ∙ default_more (ends s.places) None y)
 
   pub target_timed : (p h : ℕ) (ks : List ℕ) → Later s (declared s h ks) → Timed (tell (target p ks) ∷ calls) (declared s h ks)
   target_timed p h ks later =
@@ -142,11 +134,11 @@ module _ {calls : List Call} (s : Build) (timed : Timed calls s) where
       quiet (tell (target p ks)) s (declared s h ks) timed later tt
       (λ y.
       ap (λ zs. get_or zs y None) (map_push (λ (z : Place). start_of z.kind) (set s.places h grown) (new_target s h))
-      ∙ none_more (starts (set s.places h grown)) y
+      ∙ default_more (starts (set s.places h grown)) None y
       ∙ ap (λ zs. get_or zs y None) (map_set_same (λ (z : Place). start_of z.kind) s.places h grown no_place (declared_start (kind_at s.places h))))
       (λ y.
       ap (λ zs. get_or zs y None) (map_push (λ (z : Place). end_of z.kind) (set s.places h grown) (new_target s h))
-      ∙ none_more (ends (set s.places h grown)) y
+      ∙ default_more (ends (set s.places h grown)) None y
       ∙ ap (λ zs. get_or zs y None) (map_set_same (λ (z : Place). end_of z.kind) s.places h grown no_place (declared_end (kind_at s.places h))))
 
   pub stamp_timed : (p : ℕ) → Later s (counted s) → Timed (stamp p ∷ calls) (counted s)
@@ -155,12 +147,6 @@ module _ {calls : List Call} (s : Build) (timed : Timed calls s) where
 -- A death: what the last process leaves ends.
 module _ {calls : List Call} (s : Build) (f : Follows calls s) (sound : Sound s) (timed : Timed calls s) (p i : ℕ) (on : Follows (tell (death p) ∷ calls) (died s i)) (sound-on : Sound (died s i))
     (later : Later s (died s i)) where
-  number_is : s.number + 1 ≡ suc (length calls)
-  number_is = add-one s.number ∙ ap suc f.counted
-
-  same_starts : starts (died s i).places ≡ starts s.places
-  same_starts = changed_same (λ (y : Place). start_of y.kind) (one_less (s.number + 1)) (less_start (s.number + 1)) s.places (line (parents s.places) (birth_at s.births i).at)
-
   same_size : length (died s i).places ≡ length s.places
   same_size = sym (size on sound-on) ∙ size f sound
 
@@ -173,12 +159,12 @@ module _ {calls : List Call} (s : Build) (f : Follows calls s) (sound : Sound s)
 
   pub death_timed : Timed (tell (death p) ∷ calls) (died s i)
   death_timed = record {
-    begun = λ m b. ap (λ zs. is_some (get_or zs m None)) same_starts ∙ timed.begun m (begun_death b);
+    begun = λ m b. ap (λ zs. is_some (get_or zs m None)) (died_starts s i) ∙ timed.begun m (begun_death b);
     begun_to = λ m n l e.
-        let was = sym (ap (λ zs. get_or zs m None) same_starts) ∙ e in
+        let was = sym (ap (λ zs. get_or zs m None) (died_starts s i)) ∙ e in
         begun_before (timed.begun_to m n (sym (ap (λ (y : Shape). y.sort) (later.shape m (start_within s m n was))) ∙ l) was);
-    starts_to = λ x n e. started_before (timed.starts_to x n (sym (ap (λ zs. get_or zs x None) same_starts) ∙ e));
-    starts_from = λ x n e. ap (λ zs. get_or zs x None) same_starts ∙ timed.starts_from x n (starts_death e);
+    starts_to = λ x n e. started_before (timed.starts_to x n (sym (ap (λ zs. get_or zs x None) (died_starts s i)) ∙ e));
+    starts_from = λ x n e. ap (λ zs. get_or zs x None) (died_starts s i) ∙ timed.starts_from x n (starts_death e);
     ends_to = ends_to_on;
     ends_from = ends_from_on;
     ends_within = within_on;
@@ -204,7 +190,7 @@ module _ {calls : List Call} (s : Build) (f : Follows calls s) (sound : Sound s)
           (λ same. ended_before (timed.ends_to x n (sym same ∙ e)))
           (λ new.
           let both = last_of x (s.number + 1) w new.0 new.1 in
-          subst (Ended x (tell (death p) ∷ calls)) (sym number_is ∙ same_Some _ _ (sym new.1 ∙ e)) (last_death both.0 both.1))
+          subst (Ended x (tell (death p) ∷ calls)) (sym (next_number f) ∙ same_Some _ _ (sym new.1 ∙ e)) (last_death both.0 both.1))
           (later.ends x w)
 
       within_on : (x n : ℕ) → Ended x (tell (death p) ∷ calls) n → x < length (died s i).places
@@ -226,7 +212,7 @@ module _ {calls : List Call} (s : Build) (f : Follows calls s) (sound : Sound s)
           let shut = sound-on.times.over x (omega arith) l ∙ eq-eqb _ 0 empty in
           ⊎_elim
           (λ same. absurd (false≢true (sym (ap is_some (same ∙ was)) ∙ shut)))
-          (λ new. new.1 ∙ ap Some number_is)
+          (λ new. new.1 ∙ ap Some (next_number f))
           (later.ends x w)
 
 -- A birth at a new step of the make h: the step starts, and the make too if this is its first.
@@ -242,16 +228,13 @@ module _ {calls : List Call} (s : Build) (f : Follows calls s) (sound : Sound s)
   abbrev start_on : Option ℕ
   start_on = start_of (kind_begun (s.number + 1) (kind_at s.places h))
 
-  step_number : s.number + 1 ≡ suc (length calls)
-  step_number = add-one s.number ∙ ap suc f.counted
-
   h_is : make_in calls q ≡ Some h
   h_is = parent_make f sound parent makes
 
   step_ends : (x : ℕ) → get_or (ends stepped.places) x None ≡ get_or (ends s.places) x None
   step_ends x =
       ap (λ zs. get_or zs x None) (more_ends (with_step s h t) (length s.places) ∙ map_push (λ (z : Place). end_of z.kind) (set s.places h begun_make_place) (new_step s h t))
-      ∙ none_more (ends (set s.places h begun_make_place)) x
+      ∙ default_more (ends (set s.places h begun_make_place)) None x
       ∙ ap (λ zs. get_or zs x None) (map_set_same (λ (z : Place). end_of z.kind) s.places h begun_make_place no_place (begun_end (s.number + 1) (kind_at s.places h)))
 
   step_starts : starts stepped.places ≡ set (starts s.places) h start_on ++ Some (s.number + 1) ∷ []
@@ -280,15 +263,12 @@ module _ {calls : List Call} (s : Build) (f : Follows calls s) (sound : Sound s)
   start_other x w ne = start_old x w ∙ get_or-set_other (starts s.places) h x start_on None ne
 
   -- the make is running: its own process lives
-  h_sort : (shape_at (shapes s.places) h).sort ≡ a_make
-  h_sort = is_make_sort _ (ap make_sort (ap (λ (y : Shape). y.sort) (shape_is s.places h)) ∙ makes)
-
   h_open : is_some (end_of (kind_at s.places h)) ≡ false
   h_open =
       let some = peopled_from f sound h (own q h_is) in
       let w = parent_within f sound parent in
       let z = length-map s.places shape in
-      ap is_some (sym (end_is s.places h)) ∙ sound.times.over h (omega arith) (ap lasting h_sort) ∙ ne_eqb (get_or (lives s.places) h 0) 0 (λ e. omega arith)
+      ap is_some (sym (end_is s.places h)) ∙ sound.times.over h (omega arith) (ap lasting (make_shape s.places h makes)) ∙ ne_eqb (get_or (lives s.places) h 0) 0 (λ e. omega arith)
 
   h_started : is_some start_on ≡ true
   h_started = begun_some (s.number + 1) (kind_at s.places h) makes h_open
@@ -307,7 +287,7 @@ module _ {calls : List Call} (s : Build) (f : Follows calls s) (sound : Sound s)
   begun_on : (m : ℕ) → Begun m (tell (birth p q t) ∷ calls) → is_some (get_or (starts stepped.places) m None) ≡ true
   begun_on m (begun_now ne e) = ap (λ x. is_some (get_or (starts stepped.places) x None)) (same_Some _ _ (sym e ∙ h_is)) ∙ ap is_some start_make ∙ h_started
   begun_on m (begun_before b) =
-      let was = is_there _ (timed.begun m b) in
+      let was = some_of _ (timed.begun m b) in
       ap is_some (later.starts m was.0 (start_within s m was.0 was.1) was.1)
 
   new_sort : (shape_at (shapes stepped.places) (length s.places)).sort ≡ step
@@ -325,25 +305,25 @@ module _ {calls : List Call} (s : Build) (f : Follows calls s) (sound : Sound s)
   starts_on : (x n : ℕ) → get_or (starts stepped.places) x None ≡ Some n → Starts x (tell (birth p q t) ∷ calls) n
   starts_on x n e =
       by_place (λ y. get_or (starts stepped.places) y None ≡ Some n → Starts y (tell (birth p q t) ∷ calls) n)
-      (λ new. subst (Starts (length s.places) (tell (birth p q t) ∷ calls)) (sym step_number ∙ same_Some _ _ (sym start_new ∙ new)) (step_born target_named (sym (size f sound))))
+      (λ new. subst (Starts (length s.places) (tell (birth p q t) ∷ calls)) (sym (next_number f) ∙ same_Some _ _ (sym start_new ∙ new)) (step_born target_named (sym (size f sound))))
       (λ at.
       ⊎_elim
       (λ same. started_before (timed.starts_to h n (same ∙ sym start_make ∙ at)))
       (λ now.
-      subst (Starts h (tell (birth p q t) ∷ calls)) (sym step_number ∙ same_Some _ _ (sym (start_make ∙ now.1) ∙ at))
+      subst (Starts h (tell (birth p q t) ∷ calls)) (sym (next_number f) ∙ same_Some _ _ (sym (start_make ∙ now.1) ∙ at))
       (first_step target_named h_is (λ b. false≢true (sym (ap is_some now.0) ∙ timed.begun h b))))
       h_starts)
       (λ y w ne at. started_before (timed.starts_to y n (sym (start_other y w ne) ∙ at)))
       x (start_within stepped x n e) e
 
   starts_back : (x n : ℕ) → Starts x (tell (birth p q t) ∷ calls) n → get_or (starts stepped.places) x None ≡ Some n
-  starts_back x n (step_born ne at) = ap (λ y. get_or (starts stepped.places) y None) (at ∙ size f sound) ∙ start_new ∙ ap Some step_number
+  starts_back x n (step_born ne at) = ap (λ y. get_or (starts stepped.places) y None) (at ∙ size f sound) ∙ start_new ∙ ap Some (next_number f)
   starts_back x n (first_step ne e first) =
       let x-is = same_Some _ _ (sym e ∙ h_is) in
       ap (λ y. get_or (starts stepped.places) y None) x-is ∙ start_make
       ∙ ⊎_elim
-      (λ same. let k = is_there start_on h_started in absurd (first (subst (λ y. Begun y calls) (sym x-is) (timed.begun_to h k.0 h_sort (same ∙ k.1)))))
-      (λ now. now.1 ∙ ap Some step_number)
+      (λ same. let k = some_of start_on h_started in absurd (first (subst (λ y. Begun y calls) (sym x-is) (timed.begun_to h k.0 (make_shape s.places h makes) (same ∙ k.1)))))
+      (λ now. now.1 ∙ ap Some (next_number f))
       h_starts
   starts_back x n (started_before b) = let was = timed.starts_from x n b in later.starts x n (start_within s x n was) was
 
@@ -352,7 +332,7 @@ module _ {calls : List Call} (s : Build) (f : Follows calls s) (sound : Sound s)
     begun = begun_on;
     begun_to = λ m n l e.
         by_place (λ y. (shape_at (shapes stepped.places) y).sort ≡ a_make → get_or (starts stepped.places) y None ≡ Some n → Begun y (tell (birth p q t) ∷ calls))
-        (λ sort at. absurd (step_no_make (sym new_sort ∙ sort)))
+        (λ sort at. absurd (step_make (sym new_sort ∙ sort)))
         (λ sort at. begun_now target_named h_is)
         (λ y w ne sort at. begun_before (timed.begun_to y n (sym (ap (λ (z : Shape). z.sort) (later.shape y w)) ∙ sort) (sym (start_other y w ne) ∙ at)))
         m (start_within stepped m n e) l e;

@@ -1,11 +1,9 @@
 -- Over a run, the whole state is what the calls tell.
 use Rattle.std.proofs.Common.{◌≡◌, ℕ, zero, suc, ◌+◌, ◌≤◌, eqb, List, [], ◌∷◌, get_or, IfOk, Some, None, Option, sym, refl, subst, arith, MatchOption}
-use Rattle.std.proofs.lemmas.Option.{none-some}
 use Rattle.std.proofs.lemmas.Result.{IfOk-at_ok}
-use Rattle.std.proofs.lemmas.Bool.{eqb-false}
 use Rattle.std.specs.Option.{option_map}
 use Rattle.faults.specs.declared.OrderFault.TheVariants.{UsedUp}
-use Rattle.order.proofs.Checks.{passing}
+use Rattle.order.proofs.Checks.{passing, still_counted}
 use Rattle.order.specs.declared.Timestamp.{Timestamp}
 use Rattle.order.specs.Events.{Told}
 use Rattle.order.specs.Meaning.{last_number}
@@ -25,7 +23,7 @@ use Rattle.makes.proofs.RunsFollows.{born_follows, step_follows, make_follows, t
 use Rattle.makes.proofs.RunsPlaces.{Follows}
 use Rattle.makes.proofs.RunsRows.{Rowed, born_rowed, step_rowed, make_rowed, target_rowed, death_rowed, stamp_rowed}
 use Rattle.makes.proofs.RunsTimes.{Timed, born_timed, step_timed, make_timed, target_timed, death_timed, stamp_timed}
-use Rattle.makes.proofs.Starts.{new_sound}
+use Rattle.makes.proofs.Starts.{never, nothing_declared, new_sound}
 
 -- All that the state and the calls say of each other.
 pub record Whole (calls : List Call) (s : Build) : Type 0 where
@@ -35,14 +33,6 @@ pub record Whole (calls : List Call) (s : Build) : Type 0 where
   pub rowed : Rowed calls s
 
 -- A new order.
-alone : (x n : ℕ) → get_or (None ∷ []) x None ≡ Some n → ⊥
-alone zero n e = none-some _ e
-alone (suc x) n e = none-some _ e
-
-nothing_declared : (x : ℕ) → ◌≡◌ {A = ℕ} (get_or (0 ∷ []) x 0) 0
-nothing_declared zero = refl
-nothing_declared (suc x) = refl
-
 session_only : (x : ℕ) → (get_or (shape no_place ∷ []) x (shape no_place)).sort ≡ a_target → ⊥
 session_only zero e = cc
 session_only (suc x) e = cc
@@ -61,10 +51,10 @@ start_whole room = record {
   };
   timed = record {
     begun = λ m b. elim b [ ];
-    begun_to = λ m n l e. absurd (alone m n e);
-    starts_to = λ x n e. absurd (alone x n e);
+    begun_to = λ m n l e. absurd (never m n e);
+    starts_to = λ x n e. absurd (never x n e);
     starts_from = λ x n b. elim b [ ];
-    ends_to = λ x n e. absurd (alone x n e);
+    ends_to = λ x n e. absurd (never x n e);
     ends_from = λ x n l b. elim b [ ];
     ends_within = λ x n b. elim b [ ];
   };
@@ -124,7 +114,7 @@ pub stamped : (s : Build) → Sound s → (p : ℕ) (o : Option ℕ) → MatchOp
 stamped s sound p None h = tt
 stamped s sound p (Some i) h =
     passing (Stamped s p) ((eqb s.number last_number, UsedUp) ∷ []) _ (λ passed.
-    record { number = refl; who = i; lives = h; place = refl; left = refl; more = let v = sound.number in let ne = eqb-false s.number last_number passed.0 in omega arith })
+    record { number = refl; who = i; lives = h; place = refl; left = refl; more = still_counted s.number sound.number passed.0 })
 
 -- a run tells it all
 pub whole : (room : Room) {calls : List Call} {s : Build} → Ran make_machine (start room) calls s → Whole calls s

@@ -5,6 +5,7 @@ use Rattle.std.proofs.lemmas.Bool.{false≢true}
 use Rattle.makes.specs.declared.room.Room.{Room}
 use Rattle.makes.specs.Machine.{capped, start_in, start}
 use Rattle.makes.specs.Places.{Sort, session, make, target, step, no_place, Shape, shape, shape_at, parents_of}
+use Rattle.makes.specs.Shapes.{session_make, session_target, session_step}
 use Rattle.makes.specs.Sound.{levels_left, makes_above, SoundTree, lasting, Sound}
 use Rattle.makes.specs.Tree.{Earlier, levels}
 
@@ -20,15 +21,6 @@ only_root P root (suc x) h = absurd (omega arith)
 -- which is no make, target or step
 session_other : (s : Sort) → (session ≡ s → ⊥) → (x : ℕ) → x < length alone → (shape_at alone x).sort ≡ s → ⊥
 session_other s other = only_root (λ x. (shape_at alone x).sort ≡ s → ⊥) other
-
-no_make : session ≡ make → ⊥
-no_make e = cc
-
-no_target : session ≡ target → ⊥
-no_target e = cc
-
-no_step : session ≡ step → ⊥
-no_step e = cc
 
 above_alone : Earlier (parents_of alone)
 above_alone zero h = absurd (omega arith)
@@ -46,13 +38,13 @@ alone_sound = record {
 }
 
 -- nothing has started or ended
-never : (x k : ℕ) → get_or (None ∷ []) x None ≡ Some k → ⊥
+pub never : (x k : ℕ) → get_or (None ∷ []) x None ≡ Some k → ⊥
 never zero k e = cc
 never (suc x) k e = cc
 
-none_declared : (x : ℕ) → get_or (0 ∷ []) x 0 ≤ 0
-none_declared zero = omega arith
-none_declared (suc x) = omega arith
+pub nothing_declared : (x : ℕ) → ◌≡◌ {A = ℕ} (get_or (0 ∷ []) x 0) 0
+nothing_declared zero = refl
+nothing_declared (suc x) = refl
 
 pub start_sound : (room : Room) → room.births ≤ 4096 → room.makes ≤ 64 → room.targets ≤ 512 → Sound (start_in room)
 start_sound room births makes targets = record {
@@ -61,17 +53,17 @@ start_sound room births makes targets = record {
   times = record {
     past = λ x k e. absurd (never x k e);
     forward = λ x k e s t. absurd (never x k s);
-    started = λ x h e. absurd (session_other step no_step x h e);
+    started = λ x h e. absurd (session_other step session_step x h e);
     over = λ x h e. absurd (only_root (λ y. lasting (shape_at alone y).sort ≡ true → ⊥) false≢true x h e);
   };
   births = record { housed = λ i h. absurd (omega arith); homely = λ i h. absurd (omega arith); only = λ i j h k. absurd (omega arith); live = only_root _ refl };
   rows = record { whole = λ t h. absurd (omega arith); lower = λ t u h. absurd (omega arith); chained = λ t u v h. absurd (omega arith) };
   slots = record {
-    row = λ x h e. absurd (session_other target no_target x h e);
-    ordinal = λ x h e. absurd (session_other make no_make x h e);
-    apart = λ x y h k e. absurd (session_other make no_make x h e);
-    few = none_declared;
-    slotted = λ x k h e. absurd (session_other make no_make x h e);
+    row = λ x h e. absurd (session_other target session_target x h e);
+    ordinal = λ x h e. absurd (session_other make session_make x h e);
+    apart = λ x y h k e. absurd (session_other make session_make x h e);
+    few = λ x. let z = nothing_declared x in omega arith;
+    slotted = λ x k h e. absurd (session_other make session_make x h e);
   };
   room = record {
     births = omega arith;

@@ -61,22 +61,29 @@ over_less true n p lasts was some = go (p.live - 1 == 0) refl
     go true e = closed_some n p.kind lasts ∙ sym e
     go false e = was ∙ ne_eqb p.live 0 (λ z. let h = some refl in omega arith) ∙ sym e
 
+-- a death keeps the shapes, the counts of targets and the starts
+pub died_shapes : (s : Build) (i : ℕ) → shapes (died s i).places ≡ shapes s.places
+died_shapes s i = changed_same shape (one_less (s.number + 1)) (less_shape (s.number + 1)) s.places (line (parents s.places) (birth_at s.births i).at)
+
+pub died_counts : (s : Build) (i : ℕ) → counts (died s i).places ≡ counts s.places
+died_counts s i = changed_same (λ (p : Place). targets_of p.kind) (one_less (s.number + 1)) (less_targets (s.number + 1)) s.places (line (parents s.places) (birth_at s.births i).at)
+
+pub died_starts : (s : Build) (i : ℕ) → starts (died s i).places ≡ starts s.places
+died_starts s i = changed_same (λ (p : Place). start_of p.kind) (one_less (s.number + 1)) (less_start (s.number + 1)) s.places (line (parents s.places) (birth_at s.births i).at)
+
+-- where a live process is counted, somebody is
+pub some_there : (s : Build) → Sound s → (i : ℕ) → i < length s.births → (birth_at s.births i).live ≡ true
+    → (x : ℕ) → x < length (shapes s.places) → holds (parents s.places) x (birth_at s.births i).at ≡ true → 0 < (place_at s.places x).live
+some_there s sound i in_table alive x h held =
+    let c = lodger_counts (parents s.places) s.births x i in_table alive held in
+    let l = sound.births.live x h in
+    let e = live_is s.places x in
+    omega arith
+
 -- A death of the birth i.
 module _ (s : Build) (sound : Sound s) (more : s.number + 1 ≤ last_number) (i : ℕ) (in_table : i < length s.births) (alive : (birth_at s.births i).live ≡ true) where
-  size : length (shapes s.places) ≡ length s.places
-  size = length-map s.places shape
-
   home_within : (birth_at s.births i).at < length s.places
-  home_within = let a = sound.births.housed i in_table in let b = size in omega arith
-
-  same_shapes : shapes (died s i).places ≡ shapes s.places
-  same_shapes = changed_same shape (one_less (s.number + 1)) (less_shape (s.number + 1)) s.places (line (parents s.places) (birth_at s.births i).at)
-
-  same_counts : counts (died s i).places ≡ counts s.places
-  same_counts = changed_same (λ (p : Place). targets_of p.kind) (one_less (s.number + 1)) (less_targets (s.number + 1)) s.places (line (parents s.places) (birth_at s.births i).at)
-
-  same_starts : starts (died s i).places ≡ starts s.places
-  same_starts = changed_same (λ (p : Place). start_of p.kind) (one_less (s.number + 1)) (less_start (s.number + 1)) s.places (line (parents s.places) (birth_at s.births i).at)
+  home_within = let a = sound.births.housed i in_table in let b = length-map s.places shape in omega arith
 
   at : (x : ℕ) → place_at (died s i).places x ≡ cond (holds (parents s.places) x (birth_at s.births i).at) (one_less (s.number + 1) (place_at s.places x)) (place_at s.places x)
   at x = walked_at (parents s.places) sound.tree.earlier (one_less (s.number + 1)) x (birth_at s.births i).at s.places home_within
@@ -92,37 +99,29 @@ module _ (s : Build) (sound : Sound s) (more : s.number + 1 ≤ last_number) (i 
       let was = end_is s.places x in
       ⊎_elim (λ e. inl (here ∙ e ∙ sym was)) (λ e. inr (was ∙ e.0, here ∙ e.1)) (end_less (holds (parents s.places) x (birth_at s.births i).at) (s.number + 1) (place_at s.places x))
 
-  -- who is counted where the dead one was
-  some_there : (x : ℕ) → x < length (shapes s.places) → holds (parents s.places) x (birth_at s.births i).at ≡ true → 0 < (place_at s.places x).live
-  some_there x h held =
-      let c = lodger_counts (parents s.places) s.births x i in_table alive held in
-      let l = sound.births.live x h in
-      let e = live_is s.places x in
-      omega arith
-
   over_after : (x : ℕ) → x < length (shapes s.places) → lasting (shape_at (shapes s.places) x).sort ≡ true → is_some (slice_index_or (ends (died s i).places) x None) ≡ (slice_index (lives (died s i).places) x == 0)
   over_after x h lasts =
       let was : is_some (end_of (kind_at s.places x)) ≡ nat_eq (place_at s.places x).live 0 =
       ap is_some (sym (end_is s.places x)) ∙ sound.times.over x h lasts ∙ ap (λ l. nat_eq l 0) (live_is s.places x) in
       ap is_some (end_is (died s i).places x ∙ ap (λ (p : Place). end_of p.kind) (at x))
-      ∙ over_less (holds (parents s.places) x (birth_at s.births i).at) (s.number + 1) (place_at s.places x) (sym (ap lasting (sort_is s sound x)) ∙ lasts) was (some_there x h)
+      ∙ over_less (holds (parents s.places) x (birth_at s.births i).at) (s.number + 1) (place_at s.places x) (sym (ap lasting (sort_is s sound x)) ∙ lasts) was (some_there s sound i in_table alive x h)
       ∙ ap (λ l. nat_eq l 0) (sym (live_is (died s i).places x ∙ ap (λ (p : Place). p.live) (at x)))
 
   pub died_sound : Sound (died s i)
   died_sound = record {
     number = more;
-    tree = subst SoundTree (sym same_shapes) sound.tree;
+    tree = subst SoundTree (sym (died_shapes s i)) sound.tree;
     times =
-        subst (λ ts. SoundTimes (s.number + 1) ts (lives (died s i).places) (starts (died s i).places) (ends (died s i).places)) (sym same_shapes)
-        (subst (λ ss. SoundTimes (s.number + 1) (shapes s.places) (lives (died s i).places) ss (ends (died s i).places)) (sym same_starts)
+        subst (λ ts. SoundTimes (s.number + 1) ts (lives (died s i).places) (starts (died s i).places) (ends (died s i).places)) (sym (died_shapes s i))
+        (subst (λ ss. SoundTimes (s.number + 1) (shapes s.places) (lives (died s i).places) ss (ends (died s i).places)) (sym (died_starts s i))
         (times_dead s.number (shapes s.places) (lives s.places) (lives (died s i).places) (starts s.places) (ends s.places) (ends (died s i).places) sound.times died_ends over_after));
     births =
-        subst (λ ts. SoundBirths (died s i).births ts (lives (died s i).places)) (sym same_shapes)
+        subst (λ ts. SoundBirths (died s i).births ts (lives (died s i).places)) (sym (died_shapes s i))
         (births_dead (shapes s.places) s.births (lives s.places) (lives (died s i).places) sound.births i in_table alive (λ y h. lives_at y));
     rows = sound.rows;
     slots =
-        subst (λ ts. SoundSlots ts (counts (died s i).places) s.makes (length s.rows) s.room.targets s.slots) (sym same_shapes)
-        (subst (λ cs. SoundSlots (shapes s.places) cs s.makes (length s.rows) s.room.targets s.slots) (sym same_counts) sound.slots);
+        subst (λ ts. SoundSlots ts (counts (died s i).places) s.makes (length s.rows) s.room.targets s.slots) (sym (died_shapes s i))
+        (subst (λ cs. SoundSlots (shapes s.places) cs s.makes (length s.rows) s.room.targets s.slots) (sym (died_counts s i)) sound.slots);
     room =
         let lb = length-set s.births i (record { process = (birth_at s.births i).process; at = (birth_at s.births i).at; live = false }) in
         let lp = length_changed (one_less (s.number + 1)) s.places (line (parents s.places) (birth_at s.births i).at) in
@@ -144,8 +143,8 @@ module _ (s : Build) (sound : Sound s) (more : s.number + 1 ≤ last_number) (i 
   died_later = record {
     number = refl;
     longer = let lp = length_changed (one_less (s.number + 1)) s.places (line (parents s.places) (birth_at s.births i).at) in omega arith;
-    shape = λ x h. ap (λ ts. shape_at ts x) same_shapes;
-    starts = λ x k h e. ap (λ ss. get_or ss x None) same_starts ∙ e;
+    shape = λ x h. ap (λ ts. shape_at ts x) (died_shapes s i);
+    starts = λ x k h e. ap (λ ss. get_or ss x None) (died_starts s i) ∙ e;
     ends = λ x h. died_ends x;
     needs = λ r u h j. refl;
   }

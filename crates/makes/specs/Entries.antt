@@ -13,7 +13,7 @@ use Rattle.makes.specs.Tree.{up, line, holds}
 use Rattle.makes.specs.Judging.{sort_is}
 use Rattle.makes.specs.Later.{Later}
 use Rattle.makes.specs.Lodgers.{lodger_counts, births_born}
-use Rattle.makes.specs.Shapes.{changed_same, length_changed, above_make, is_make_sort}
+use Rattle.makes.specs.Shapes.{changed_same, length_changed, above_make, make_shape}
 use Rattle.makes.specs.Times.{times_born}
 use Rattle.makes.specs.TreeLemmas.{holds_more, holds_decides, holds_le}
 use Rattle.makes.specs.Views.{live_is, walked_at}
@@ -62,12 +62,9 @@ neither_stands step m t = refl
 
 -- Where a parent with this home stands, and who is counted there.
 module _ (s : Build) (sound : Sound s) (h : ℕ) (parent : ParentHome s h) where
-  size : length (shapes s.places) ≡ length s.places
-  size = length-map s.places shape
-
   pub home_within : h < length s.places
   home_within =
-      let n = size in
+      let n = length-map s.places shape in
       ⊎_elim (λ e. let f = sound.tree.some in omega arith) (λ l. let f = sound.births.housed l.0 l.1 in let e = l.3 in omega arith) parent
 
   pub home_no_target : target_sort (shape_at (shapes s.places) h).sort ≡ false
@@ -92,9 +89,6 @@ module _ (s : Build) (sound : Sound s) (h : ℕ) (parent : ParentHome s h) where
       omega arith)
       parent
 
-  make_home : is_make (kind_at s.places h) ≡ true → (shape_at (shapes s.places) h).sort ≡ make
-  make_home e = is_make_sort (shape_at (shapes s.places) h).sort (ap make_sort (sort_is s sound h) ∙ e)
-
   pub stand_of_make : is_make (kind_at s.places h) ≡ true → stand s.places h ≡ up (parents s.places) h
   stand_of_make e = ap (λ b. cond b (place_at s.places h).parent h) e ∙ sym (up_at s.places h)
 
@@ -102,7 +96,7 @@ module _ (s : Build) (sound : Sound s) (h : ℕ) (parent : ParentHome s h) where
   stand_of_other e = ap (λ b. cond b (place_at s.places h).parent h) e
 
   above : is_make (kind_at s.places h) ≡ true → (0 < h) × (up (parents s.places) h < h) × (stand_sort (shape_at (shapes s.places) (up (parents s.places) h)).sort ≡ true)
-  above e = let w = home_within in let n = size in above_make (shapes s.places) sound.tree h (omega arith) (make_home e)
+  above e = let w = home_within in let n = length-map s.places shape in above_make (shapes s.places) sound.tree h (omega arith) (make_shape s.places h e)
 
   pub stand_within : stand s.places h < length s.places
   stand_within =
@@ -149,7 +143,7 @@ module _ (s : Build) (sound : Sound s) (more : s.number + 1 ≤ last_number) (p 
       let after = changed one_more s.places (line (parents s.places) (stand s.places h)) in
       let b : Birth ℕ = record { process = p; at = stand s.places h; live = true } in
       let within = stand_within s sound h parent in
-      let n = size s sound h parent in
+      let n = length-map s.places shape in
       let at = more_lives ps x sound.tree within in
       let lb = length_push s.births b in
       let lp = length_changed one_more ps (line (parents ps) x) in

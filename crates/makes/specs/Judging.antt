@@ -9,7 +9,7 @@ use Rattle.makes.specs.Places.{Sort, session, make, target, step, make_sort, tar
 use Rattle.makes.specs.Rows.{needs}
 use Rattle.makes.specs.Sound.{fits_below, Sound}
 use Rattle.makes.specs.Tree.{up, Holds, Branch, Side}
-use Rattle.makes.specs.Shapes.{shape_is, above_step, above_target, above_make}
+use Rattle.makes.specs.Shapes.{shape_is, above_step, above_target, above_make, make_target}
 use Rattle.makes.specs.TreeLemmas.{holds_le, holds_split}
 use Rattle.makes.specs.Views.{start_is, end_is}
 
@@ -60,13 +60,7 @@ target_below_make step make f = absurd (false≢true f)
 target_below_make step target f = refl
 target_below_make step step f = absurd (false≢true f)
 
-make_target : make ≡ target → ⊥
-make_target e = cc
-
 module _ (s : Build) (sound : Sound s) where
-  size : length (shapes s.places) ≡ length s.places
-  size = length-map s.places shape
-
   -- the sort and the row of a place, in the table and in the tree
   pub sort_is : (x : ℕ) → (shape_at (shapes s.places) x).sort ≡ sort_of (kind_at s.places x)
   sort_is x = ap (λ (y : Shape). y.sort) (shape_is s.places x)
@@ -78,7 +72,7 @@ module _ (s : Build) (sound : Sound s) where
   pub below_make : (c l a : ℕ) → is_make (kind_at s.places c) ≡ true → a < length s.places → Branch (parents s.places) c l a
       → (l < length (shapes s.places)) × ((shape_at (shapes s.places) l).sort ≡ target)
   below_make c l a m h b =
-      let n = size in
+      let n = length-map s.places shape in
       let le = holds_le (parents s.places) sound.tree.earlier b.holds in
       let lt : l < length (shapes s.places) = omega arith in
       let fit = sound.tree.fitting l b.below lt in
@@ -113,7 +107,7 @@ module _ (s : Build) (sound : Sound s) where
   pub side_kind : (c l a : ℕ) → l < length s.places → is_stand (kind_at s.places a) ≡ true → Side (parents s.places) c l a → is_target (kind_at s.places l) ≡ is_make (kind_at s.places c)
   side_kind c l a h stands (inl e) = ap (λ x. is_target (kind_at s.places x)) e.0 ∙ stand_is_neither (sort_of (kind_at s.places c)) (ap (λ x. is_stand (kind_at s.places x)) (sym e.1) ∙ stands)
   side_kind c l a h stands (inr b) =
-      let n = size in
+      let n = length-map s.places shape in
       ap target_sort (sym (sort_is l))
       ∙ target_below_make _ _ (sound.tree.fitting l b.below (omega arith))
       ∙ ap (λ x. make_sort (shape_at (shapes s.places) x).sort) b.parent

@@ -31,13 +31,13 @@ pub record Later (s t : Build) : Type 0 where
   pub needs : (r u : ℕ) → r < length s.rows → u < 512 → needs t.rows r u ≡ needs s.rows r u
 
 -- a step has started
-step_started : (k : Kind) → sort_of k ≡ step → is_some (start_of k) ≡ true
+pub step_started : (k : Kind) → sort_of k ≡ step → is_some (start_of k) ≡ true
 step_started Session e = cc
 step_started (Make m) e = cc
 step_started (Target row) e = cc
 step_started (Step start end) e = refl
 
-some_of : (o : Option ℕ) → is_some o ≡ true → (k : ℕ) × (o ≡ Some k)
+pub some_of : (o : Option ℕ) → is_some o ≡ true → (k : ℕ) × (o ≡ Some k)
 some_of None e = absurd (false≢true e)
 some_of (Some k) e = (k, refl)
 
@@ -53,9 +53,6 @@ pub up_shape : (ps : List Place) (x : ℕ) → up (parents ps) x ≡ (shape_at (
 up_shape ps x = up_at ps x ∙ sym (ap (λ (y : Shape). y.parent) (shape_is ps x))
 
 module _ (s t : Build) (sound : Sound s) (later : Later s t) where
-  size : length (shapes s.places) ≡ length s.places
-  size = length-map s.places shape
-
   up_same : (x : ℕ) → x < length s.places → up (parents t.places) x ≡ up (parents s.places) x
   up_same x h = up_shape t.places x ∙ ap (λ (y : Shape). y.parent) (later.shape x h) ∙ sym (up_shape s.places x)
 
@@ -96,7 +93,7 @@ module _ (s t : Build) (sound : Sound s) (later : Later s t) where
         let on = eq-eqb m.right m.place e.0 in
         (b.number, ap (λ z. cond z (Some b.number) (start_of (kind_at s.places m.right))) on, ap (λ z. cond z (Some b.number) (start_of (kind_at t.places m.right))) on, kb.given)
     right_started open-place (inr br) =
-        let n = size in
+        let n = length-map s.places shape in
         let in_tree : m.right < length (shapes s.places) = let w = right_within in omega arith in
         let off = ne_eqb m.right m.place (λ e. let l = sound.tree.earlier m.right br.below in let p = br.parent in omega arith) in
         let above : make_sort (shape_at (shapes s.places) (up (parents s.places) m.right)).sort ≡ false =

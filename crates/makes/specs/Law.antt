@@ -6,7 +6,7 @@ use Rattle.std.proofs.lemmas.Bool.{false≢true, eqb-false, eq-eqb, ltb-true, lt
 use Rattle.std.specs.Option.{option_map}
 use Rattle.std.specs.Result.{result_err}
 use Rattle.faults.specs.declared.OrderFault.TheVariants.{NotLive, UsedUp}
-use Rattle.order.proofs.Checks.{passing, refusing}
+use Rattle.order.proofs.Checks.{passing, refusing, still_counted}
 use Rattle.order.specs.declared.Timestamp.{Timestamp}
 use Rattle.order.specs.Events.{Told, birth, make, target, death, post, await}
 use Rattle.order.specs.Machine.{refused_if}
@@ -28,10 +28,6 @@ use Rattle.makes.specs.Steps.{stepped_sound, stepped_later}
 use Rattle.makes.specs.TreeLemmas.{holds_decides, root_holds}
 use Rattle.makes.specs.Turns.{turned_sound, turned_later, declared_sound, declared_later}
 use Rattle.makes.specs.Views.{live_is}
-
--- the number after a call that was not refused for it
-still_counted : (n : ℕ) → n ≤ last_number → (n == last_number) ≡ false → n + 1 ≤ last_number
-still_counted n v e = let ne = eqb-false n last_number e in omega arith
 
 module _ (s : Build) (sound : Sound s) where
   -- what a parent's home is

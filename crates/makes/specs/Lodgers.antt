@@ -11,7 +11,7 @@ use Rattle.makes.specs.Places.{target_sort, Shape, shape_at, parents_of, no_birt
 use Rattle.makes.specs.Sound.{counts_at, SoundBirths}
 use Rattle.makes.specs.Tree.{up, Earlier, holds}
 use Rattle.makes.specs.Shapes.{count_by_cons, count_by_same, shape_old, shape_new, up_old, up_new, earlier_more}
-use Rattle.makes.specs.Slots.{count_more}
+use Rattle.makes.specs.Slots.{default_more}
 use Rattle.makes.specs.TreeLemmas.{holds_kept, holds_more}
 use Rattle.makes.specs.Views.{not_above}
 
@@ -84,7 +84,7 @@ module _ (ts : List Shape) (t : Shape) (bs : List (Birth ℕ)) (ls : List ℕ) (
     only = sound.only;
     live = λ x h.
         let n = length_push ts t in
-        let c = count_more ls x in
+        let c = default_more ls 0 x in
         let old = counts_old x in
         ⊎_elim
         (λ e. let z = get_or_past ls x 0 (omega arith) in let w = ap (λ y. count_by (counts_at (parents_of (ts ++ t ∷ [])) y) bs) e ∙ counts_new in omega arith)

@@ -1,13 +1,13 @@
 -- The shapes of places: what keeps them, and the tree with one place more.
-use Rattle.std.specs.Prelude.{◌≡◌, ℕ, zero, suc, ◌+◌, ◌-◌, ◌*◌, ◌<◌, ◌≤◌, Bool, true, false, cond, List, [], ◌∷◌, ◌++◌, map, length, count_by, ◌==◌, ◌≢◌, slice_index, slice_set, refl}
-use Rattle.std.proofs.Common.{⊎_elim, sym, ap, subst, ◌∙◌, arith}
+use Rattle.std.specs.Prelude.{◌≡◌, ℕ, zero, suc, ◌+◌, ◌-◌, ◌*◌, ◌<◌, ◌≤◌, Bool, true, false, cond, ◌⊎◌, List, [], ◌∷◌, ◌++◌, map, length, count_by, ◌==◌, ◌≢◌, slice_index, slice_set, refl}
+use Rattle.std.proofs.Common.{inl, inr, ⊎_elim, sym, ap, subst, ◌∙◌, arith}
 use Rattle.std.proofs.ByRecursion.{All-weaker}
 use Rattle.std.proofs.lemmas.List.{length-set, length-map, length_push, map_push, get_or_append_left, get_or_push, get_or_past}
 use Rattle.std.proofs.lemmas.List.Sums.{sum_by-cons}
 use Rattle.std.proofs.lemmas.Bool.{cases_eq, eqb-false, cases_order, false≢true}
 use Rattle.std.specs.List.{AllByRecursion}
 use Rattle.makes.specs.declared.places.Place.{Place}
-use Rattle.makes.specs.Places.{Sort, session, make, target, step, make_sort, target_sort, stand_sort, targets_of, no_place, place_at, kind_at, Shape, shape, shapes, shape_at, parents_of, counts, changed}
+use Rattle.makes.specs.Places.{Sort, session, make, target, step, make_sort, target_sort, stand_sort, is_make, targets_of, no_place, place_at, kind_at, Shape, shape, shapes, shape_at, parents_of, counts, changed}
 use Rattle.makes.specs.Sound.{fits_below, levels_left, makes_above, SoundTree}
 use Rattle.makes.specs.Tree.{up, Earlier, line_in, line, levels}
 use Rattle.makes.specs.TreeLemmas.{line_some, line_more, line_same}
@@ -17,6 +17,13 @@ pub shape_is : (ps : List Place) (x : ℕ) → shape_at (shapes ps) x ≡ shape 
 shape_is [] x = refl
 shape_is (p ∷ ps) zero = refl
 shape_is (p ∷ ps) (suc x) = shape_is ps x
+
+-- what is in the table is in the tree, and each column of the table is as long as the tree
+pub in_shapes : (ps : List Place) {x : ℕ} → x < length ps → x < length (shapes ps)
+in_shapes ps h = let n = length-map ps shape in omega arith
+
+pub sized : {Y : Type 0} (ps : List Place) (g : Place → Y) → length (map g ps) ≡ length (shapes ps)
+sized ps g = length-map ps g ∙ sym (length-map ps shape)
 
 pub count_is : (ps : List Place) (x : ℕ) → slice_index (counts ps) x ≡ targets_of (kind_at ps x)
 count_is [] x = refl
@@ -71,6 +78,9 @@ levels_fit step step level depth fits e = absurd (false≢true fits)
 module _ (ts : List Shape) (t : Shape) where
   pub shape_old : (x : ℕ) → x < length ts → shape_at (ts ++ t ∷ []) x ≡ shape_at ts x
   shape_old x h = get_or_append_left ts (t ∷ []) (shape no_place) x h
+
+  pub new_or_old : (x : ℕ) → x < length (ts ++ t ∷ []) → (x ≡ length ts) ⊎ (x < length ts)
+  new_or_old x h = let n = length_push ts t in ⊎_elim inl (⊎_elim inr (λ gt. absurd (omega arith))) (cases_order x (length ts))
 
   pub shape_new : shape_at (ts ++ t ∷ []) (length ts) ≡ t
   shape_new = get_or_push ts t (shape no_place) (length ts) refl
@@ -200,19 +210,42 @@ is_make_sort make e = refl
 is_make_sort target e = absurd (false≢true e)
 is_make_sort step e = absurd (false≢true e)
 
+-- a make of the table is a make of the tree
+pub make_shape : (ps : List Place) (x : ℕ) → is_make (kind_at ps x) ≡ true → (shape_at (shapes ps) x).sort ≡ make
+make_shape ps x makes = is_make_sort _ (ap (λ (s : Shape). make_sort s.sort) (shape_is ps x) ∙ makes)
+
+-- the sorts differ
+pub session_make : session ≡ make → ⊥
+session_make e = cc
+
+pub session_target : session ≡ target → ⊥
+session_target e = cc
+
+pub session_step : session ≡ step → ⊥
+session_step e = cc
+
+pub make_target : make ≡ target → ⊥
+make_target e = cc
+
+pub make_step : make ≡ step → ⊥
+make_step e = cc
+
+pub target_make : target ≡ make → ⊥
+target_make e = cc
+
+pub target_step : target ≡ step → ⊥
+target_step e = cc
+
+pub step_make : step ≡ make → ⊥
+step_make e = cc
+
+pub step_target : step ≡ target → ⊥
+step_target e = cc
+
 module _ (ts : List Shape) (sound : SoundTree ts) where
   -- only the root is the session
   not_root : (x : ℕ) (s : Sort) → (shape_at ts x).sort ≡ s → (session ≢ s) → 0 < x
   not_root x s e other = ⊎_elim (λ z. absurd (other (sym sound.root ∙ ap (λ y. (shape_at ts y).sort) (sym z) ∙ e))) (λ ne. omega arith) (cases_eq x 0)
-
-  session_step : session ≡ step → ⊥
-  session_step e = cc
-
-  session_target : session ≡ target → ⊥
-  session_target e = cc
-
-  session_make : session ≡ make → ⊥
-  session_make e = cc
 
   pub above_target : (x : ℕ) → x < length ts → (shape_at ts x).sort ≡ target → (0 < x) × (up (parents_of ts) x < x) × ((shape_at ts (up (parents_of ts) x)).sort ≡ make)
   above_target x h e =

@@ -1,18 +1,19 @@
 -- The slots of the makes' targets: one place more, and one target more.
-use Rattle.std.specs.Prelude.{◌≡◌, ℕ, zero, suc, ◌+◌, ◌*◌, ◌/◌, ◌<◌, ◌≤◌, ◌⊎◌, List, [], ◌∷◌, ◌++◌, length, ◌≢◌, slice_index, slice_index_or, slice_set, refl}
-use Rattle.std.proofs.Common.{inl, inr, ⊎_elim, sym, ap, subst, ◌∙◌, arith}
+use Rattle.std.specs.Prelude.{◌≡◌, ℕ, zero, suc, ◌+◌, ◌*◌, ◌/◌, ◌<◌, ◌≤◌, List, [], ◌∷◌, ◌++◌, length, ◌≢◌, slice_index, slice_index_or, slice_set, refl}
+use Rattle.std.proofs.Common.{⊎_elim, sym, ap, subst, ◌∙◌, arith}
 use Rattle.std.proofs.lemmas.Nat.{div-mul-add}
 use Rattle.std.proofs.lemmas.List.{length_push, get_or-set_same, get_or-set_other, get_or_past}
-use Rattle.std.proofs.lemmas.Bool.{cases_eq, cases_order}
+use Rattle.std.proofs.lemmas.Bool.{cases_eq}
 use Rattle.makes.specs.Places.{make, target, Shape, shape_at}
 use Rattle.makes.specs.Sound.{TargetOf, SoundSlots}
-use Rattle.makes.specs.Shapes.{shape_old, shape_new}
+use Rattle.makes.specs.Shapes.{shape_old, new_or_old, shape_new}
 
-pub count_more : (cs : List ℕ) (x : ℕ) → slice_index (cs ++ 0 ∷ []) x ≡ slice_index cs x
-count_more [] zero = refl
-count_more [] (suc x) = refl
-count_more (c ∷ cs) zero = refl
-count_more (c ∷ cs) (suc x) = count_more cs x
+-- a list reads the same with its default at its end
+pub default_more : {X : Type 0} (xs : List X) (d : X) (x : ℕ) → slice_index_or (xs ++ d ∷ []) x d ≡ slice_index_or xs x d
+default_more [] d zero = refl
+default_more [] d (suc x) = refl
+default_more (y ∷ xs) d zero = refl
+default_more (y ∷ xs) d (suc x) = default_more xs d x
 
 target_kept : (ts : List Shape) (t : Shape) {m y : ℕ} → TargetOf ts m y → TargetOf (ts ++ t ∷ []) m y
 target_kept ts t {m} {y} h = record {
@@ -25,35 +26,29 @@ target_kept ts t {m} {y} h = record {
 module _ (ts : List Shape) (t : Shape) (cs : List ℕ) (makes targets width : ℕ) (slots : List ℕ) (sound : SoundSlots ts cs makes targets width slots) (sized : length cs ≡ length ts)
     (makes-after targets-after : ℕ) (makes-grow : makes ≤ makes-after) (targets-grow : targets ≤ targets-after)
     (row_new : t.sort ≡ target → t.row < targets-after) (ordinal-new : t.sort ≡ make → (t.ordinal ≡ makes) × (makes < makes-after)) where
-  new_or_old : (x : ℕ) → x < length (ts ++ t ∷ []) → (x ≡ length ts) ⊎ (x < length ts)
-  new_or_old x h = let n = length_push ts t in ⊎_elim inl (⊎_elim inr (λ gt. absurd (omega arith))) (cases_order x (length ts))
-
   at_new : (x : ℕ) → x ≡ length ts → shape_at (ts ++ t ∷ []) x ≡ t
   at_new x e = ap (shape_at (ts ++ t ∷ [])) e ∙ shape_new ts t
-
-  at_old : (x : ℕ) → x < length ts → shape_at (ts ++ t ∷ []) x ≡ shape_at ts x
-  at_old = shape_old ts t
 
   rows_on : (x : ℕ) → x < length (ts ++ t ∷ []) → (shape_at (ts ++ t ∷ []) x).sort ≡ target → (shape_at (ts ++ t ∷ []) x).row < targets-after
   rows_on x h e =
       ⊎_elim
       (λ is. let a = at_new x is in let r = row_new (sym (ap (λ (s : Shape). s.sort) a) ∙ e) in let q = ap (λ (s : Shape). s.row) a in omega arith)
-      (λ lt. let a = at_old x lt in let r = sound.row x lt (sym (ap (λ (s : Shape). s.sort) a) ∙ e) in let q = ap (λ (s : Shape). s.row) a in omega arith)
-      (new_or_old x h)
+      (λ lt. let a = shape_old ts t x lt in let r = sound.row x lt (sym (ap (λ (s : Shape). s.sort) a) ∙ e) in let q = ap (λ (s : Shape). s.row) a in omega arith)
+      (new_or_old ts t x h)
 
   ordinals_on : (x : ℕ) → x < length (ts ++ t ∷ []) → (shape_at (ts ++ t ∷ []) x).sort ≡ make → (shape_at (ts ++ t ∷ []) x).ordinal < makes-after
   ordinals_on x h e =
       ⊎_elim
       (λ is. let a = at_new x is in let r = ordinal-new (sym (ap (λ (s : Shape). s.sort) a) ∙ e) in let q = ap (λ (s : Shape). s.ordinal) a in omega arith)
-      (λ lt. let a = at_old x lt in let r = sound.ordinal x lt (sym (ap (λ (s : Shape). s.sort) a) ∙ e) in let q = ap (λ (s : Shape). s.ordinal) a in omega arith)
-      (new_or_old x h)
+      (λ lt. let a = shape_old ts t x lt in let r = sound.ordinal x lt (sym (ap (λ (s : Shape). s.sort) a) ∙ e) in let q = ap (λ (s : Shape). s.ordinal) a in omega arith)
+      (new_or_old ts t x h)
 
   -- a new make's ordinal is above all others
   new_apart : (x y : ℕ) → x ≡ length ts → y < length ts → (shape_at (ts ++ t ∷ []) x).sort ≡ make → (shape_at (ts ++ t ∷ []) y).sort ≡ make
       → (shape_at (ts ++ t ∷ []) x).ordinal ≢ (shape_at (ts ++ t ∷ []) y).ordinal
   new_apart x y is lt ex ey same =
       let a = at_new x is in
-      let b = at_old y lt in
+      let b = shape_old ts t y lt in
       let r = ordinal-new (sym (ap (λ (s : Shape). s.sort) a) ∙ ex) in
       let q = ap (λ (s : Shape). s.ordinal) a in
       let o = sound.ordinal y lt (sym (ap (λ (s : Shape). s.sort) b) ∙ ey) in
@@ -64,33 +59,33 @@ module _ (ts : List Shape) (t : Shape) (cs : List ℕ) (makes targets width : �
       → (shape_at (ts ++ t ∷ []) x).ordinal ≡ (shape_at (ts ++ t ∷ []) y).ordinal → x ≡ y
   apart_on x y hx hy ex ey same =
       ⊎_elim
-      (λ nx. ⊎_elim (λ ny. nx ∙ sym ny) (λ ly. absurd (new_apart x y nx ly ex ey same)) (new_or_old y hy))
+      (λ nx. ⊎_elim (λ ny. nx ∙ sym ny) (λ ly. absurd (new_apart x y nx ly ex ey same)) (new_or_old ts t y hy))
       (λ lx.
       ⊎_elim
       (λ ny. absurd (new_apart y x ny lx ey ex (sym same)))
       (λ ly.
-      let a = at_old x lx in
-      let b = at_old y ly in
+      let a = shape_old ts t x lx in
+      let b = shape_old ts t y ly in
       sound.apart x y lx ly (sym (ap (λ (s : Shape). s.sort) a) ∙ ex) (sym (ap (λ (s : Shape). s.sort) b) ∙ ey)
       (sym (ap (λ (s : Shape). s.ordinal) a) ∙ same ∙ ap (λ (s : Shape). s.ordinal) b))
-      (new_or_old y hy))
-      (new_or_old x hx)
+      (new_or_old ts t y hy))
+      (new_or_old ts t x hx)
 
   pub slots_place : SoundSlots (ts ++ t ∷ []) (cs ++ 0 ∷ []) makes-after targets-after width slots
   slots_place = record {
     row = rows_on;
     ordinal = ordinals_on;
     apart = apart_on;
-    few = λ x. let a = count_more cs x in let b = sound.few x in omega arith;
+    few = λ x. let a = default_more cs 0 x in let b = sound.few x in omega arith;
     slotted = λ x k h e lt.
-        let c = count_more cs x in
+        let c = default_more cs 0 x in
         ⊎_elim
         (λ is. let z = get_or_past cs x 0 (omega arith) in absurd (omega arith))
         (λ old.
-        let a = at_old x old in
+        let a = shape_old ts t x old in
         subst (λ (s : Shape). TargetOf (ts ++ t ∷ []) x (slice_index slots (s.ordinal * width + k))) (sym a)
         (target_kept ts t (sound.slotted x k old (sym (ap (λ (s : Shape). s.sort) a) ∙ e) (omega arith))))
-        (new_or_old x h);
+        (new_or_old ts t x h);
   }
 
 -- One target more of a make, in the make's next slot.

@@ -8,26 +8,19 @@ use Rattle.order.specs.Meaning.{last_number}
 use Rattle.makes.specs.declared.places.Kind.TheVariants.{Step}
 use Rattle.makes.specs.declared.places.Place.{Place}
 use Rattle.makes.specs.Machine.{Build, born_at, with_step, target_at}
-use Rattle.makes.specs.Places.{make, target, step, make_sort, target_sort, is_make, targets_of, start_of, end_of, kind_begun, with_kind, one_more, no_place, place_at, kind_at, Shape, shape, shapes, shape_at, parents_of, parents, counts, lives, starts, ends, changed, birth_at}
+use Rattle.makes.specs.Places.{target_sort, is_make, targets_of, start_of, end_of, kind_begun, with_kind, one_more, no_place, place_at, kind_at, Shape, shape, shapes, shape_at, parents_of, parents, counts, lives, starts, ends, changed, birth_at}
 use Rattle.makes.specs.Sound.{lasting, levels_left, SoundTree, SoundTimes, SoundBirths, SoundSlots, Sound, TargetOf}
 use Rattle.makes.specs.Tree.{up, Earlier, itself, line, holds}
 use Rattle.makes.specs.Entries.{ParentHome, more_shapes, more_counts, more_starts, more_ends, more_lives, home_within, home_peopled}
-use Rattle.makes.specs.Judging.{sort_is}
 use Rattle.makes.specs.Sorts.{begun_shape, begun_targets, begun_end, begun_start, begun_some}
 use Rattle.makes.specs.Later.{Later, up_shape}
 use Rattle.makes.specs.Lodgers.{births_place, births_born}
-use Rattle.makes.specs.Shapes.{shape_is, count_is, length_changed, shape_old, shape_new, up_old, up_new, earlier_more, tree_more, above_target, is_make_sort}
-use Rattle.makes.specs.Slots.{count_more, slots_place}
+use Rattle.makes.specs.Shapes.{shape_is, in_shapes, sized, count_is, length_changed, shape_old, shape_new, up_old, up_new, earlier_more, tree_more, above_target, make_shape, step_make, step_target}
+use Rattle.makes.specs.Slots.{default_more, slots_place}
 use Rattle.makes.specs.Times.{times_step}
 use Rattle.makes.specs.TreeLemmas.{holds_more, holds_kept, holds_decides, length_line, line_some}
 use Rattle.makes.specs.Views.{start_is, end_is}
 use Rattle.makes.specs.Walks.{map_set_same}
-
-step_target : step ≡ target → ⊥
-step_target e = cc
-
-step_make : step ≡ make → ⊥
-step_make e = cc
 
 -- a place holds itself
 own_held : (us : List ℕ) → Earlier us → (x : ℕ) → holds us x x ≡ true
@@ -43,23 +36,17 @@ module _ (s : Build) (sound : Sound s) (more : s.number + 1 ≤ last_number) (p 
   abbrev begun_make : Place
   begun_make = with_kind (place_at s.places m) (kind_begun (s.number + 1) (kind_at s.places m))
 
-  size : length (shapes s.places) ≡ length s.places
-  size = length-map s.places shape
-
   m_within : m < length s.places
   m_within = home_within s sound m parent
 
   m_in_tree : m < length (shapes s.places)
-  m_in_tree = let a = m_within in let b = size in omega arith
-
-  m_make : (shape_at (shapes s.places) m).sort ≡ make
-  m_make = is_make_sort _ (ap make_sort (sort_is s sound m) ∙ makes)
+  m_in_tree = in_shapes s.places m_within
 
   below : TargetOf (shapes s.places) m (target_at s m t)
   below =
       let c = count_is s.places m in
       subst (λ o. TargetOf (shapes s.places) m (slice_index s.slots (o * s.room.targets + (t - 1)))) (ap (λ (y : Shape). y.ordinal) (shape_is s.places m))
-      (sound.slots.slotted m (t - 1) m_in_tree m_make (omega arith))
+      (sound.slots.slotted m (t - 1) m_in_tree (make_shape s.places m makes) (omega arith))
 
   target_up : up (parents s.places) (target_at s m t) ≡ m
   target_up = up_shape s.places (target_at s m t) ∙ below.parent
@@ -76,7 +63,7 @@ module _ (s : Build) (sound : Sound s) (more : s.number + 1 ≤ last_number) (p 
       let ly = sound.tree.levelled y below.within in
       let lm = sound.tree.levelled m m_in_tree in
       let gy = ap levels_left below.sort in
-      let gm = ap levels_left m_make in
+      let gm = ap levels_left (make_shape s.places m makes) in
       let d = ap (λ (z : Shape). z.depth) (shape_is s.places m) in
       omega arith
 
@@ -141,7 +128,7 @@ module _ (s : Build) (sound : Sound s) (more : s.number + 1 ≤ last_number) (p 
       ∙ (λ i. cond (holds (parents_of (ready_shapes i)) y (length s.places)) (slice_index (ready_lives i) y + 1) (slice_index (ready_lives i) y))
 
   counted_old : (y : ℕ) → slice_index (lives after) y ≡ cond (holds vs y (length (shapes s.places))) (slice_index (lives s.places) y + 1) (slice_index (lives s.places) y)
-  counted_old y = counted_at y ∙ (λ i. cond (holds vs y (sym size i)) (count_more (lives s.places) y i + 1) (count_more (lives s.places) y i))
+  counted_old y = counted_at y ∙ (λ i. cond (holds vs y (sym (length-map s.places shape) i)) (default_more (lives s.places) 0 y i + 1) (default_more (lives s.places) 0 y i))
 
   on : (x : ℕ) → 0 < x → up vs x < x
   on = earlier_more (shapes s.places) (shape new_step) sound.tree.earlier below.within
@@ -155,7 +142,7 @@ module _ (s : Build) (sound : Sound s) (more : s.number + 1 ≤ last_number) (p 
   counted_new =
       counted_old (length (shapes s.places))
       ∙ (λ i. cond (new_held i) (slice_index (lives s.places) (length (shapes s.places)) + 1) (slice_index (lives s.places) (length (shapes s.places))))
-      ∙ (let z = get_or_past (lives s.places) (length (shapes s.places)) 0 (let a = length-map s.places (λ (y : Place). y.live) in let b = size in omega arith) in omega arith)
+      ∙ (let z = get_or_past (lives s.places) (length (shapes s.places)) 0 (let a = length-map s.places (λ (y : Place). y.live) in let b = length-map s.places shape in omega arith) in omega arith)
 
   -- what lasts and holds the new step holds the make, where its own process is
   peopled : (y : ℕ) → y < length (shapes s.places) → holds vs y (length (shapes s.places)) ≡ true → lasting (shape_at (shapes s.places) y).sort ≡ true → 0 < slice_index (lives s.places) y
@@ -172,10 +159,10 @@ module _ (s : Build) (sound : Sound s) (more : s.number + 1 ≤ last_number) (p 
       (or_cases (y == x) _ (sym (holds_more (parents s.places) sound.tree.earlier y x a.0) ∙ second))
 
   m_some : 0 < slice_index (lives s.places) m
-  m_some = home_peopled s sound m parent m m_in_tree (own_held (parents s.places) sound.tree.earlier m) (ap lasting m_make)
+  m_some = home_peopled s sound m parent m m_in_tree (own_held (parents s.places) sound.tree.earlier m) (ap lasting (make_shape s.places m makes))
 
   m_open : is_some (slice_index_or (ends s.places) m None) ≡ false
-  m_open = sound.times.over m m_in_tree (ap lasting m_make) ∙ ne_eqb (slice_index (lives s.places) m) 0 (λ e. let l = m_some in omega arith)
+  m_open = sound.times.over m m_in_tree (ap lasting (make_shape s.places m makes)) ∙ ne_eqb (slice_index (lives s.places) m) 0 (λ e. let l = m_some in omega arith)
 
   begun_is : (start_of (kind_begun (s.number + 1) (kind_at s.places m)) ≡ slice_index_or (starts s.places) m None)
       ⊎ ((slice_index_or (starts s.places) m None ≡ None) × (start_of (kind_begun (s.number + 1) (kind_at s.places m)) ≡ Some (s.number + 1)))
@@ -184,9 +171,9 @@ module _ (s : Build) (sound : Sound s) (more : s.number + 1 ≤ last_number) (p 
 
   times_on : SoundTimes (s.number + 1) (shapes s.places ++ shape new_step ∷ []) (lives after) (slice_set (starts s.places) m (start_of (kind_begun (s.number + 1) (kind_at s.places m))) ++ Some (s.number + 1) ∷ []) (ends s.places ++ None ∷ [])
   times_on =
-      let sl = length-map s.places (λ (y : Place). y.live) ∙ sym size in
-      let ss = length-map s.places (λ (y : Place). start_of y.kind) ∙ sym size in
-      let se = length-map s.places (λ (y : Place). end_of y.kind) ∙ sym size in
+      let sl = sized s.places (λ (y : Place). y.live) in
+      let ss = sized s.places (λ (y : Place). start_of y.kind) in
+      let se = sized s.places (λ (y : Place). end_of y.kind) in
       times_step s.number (shapes s.places) (lives s.places) (starts s.places) (ends s.places) sound.times (shape new_step) 0 sound.tree sl ss se
       m m_in_tree (start_of (kind_begun (s.number + 1) (kind_at s.places m))) begun_is
       (begun_some (s.number + 1) (kind_at s.places m) makes (ap is_some (sym (end_is s.places m)) ∙ m_open))
@@ -194,19 +181,19 @@ module _ (s : Build) (sound : Sound s) (more : s.number + 1 ≤ last_number) (p 
 
   births_on : SoundBirths (s.births ++ record { process = p; at = length s.places; live = true } ∷ []) (shapes s.places ++ shape new_step ∷ []) (lives after)
   births_on =
-      let sl = length-map s.places (λ (y : Place). y.live) ∙ sym size in
+      let sl = sized s.places (λ (y : Place). y.live) in
       let n = length_push (shapes s.places) (shape new_step) in
-      let z = size in
+      let z = length-map s.places shape in
       births_born (shapes s.places ++ shape new_step ∷ []) s.births (lives s.places ++ 0 ∷ []) (lives after)
       (births_place (shapes s.places) (shape new_step) s.births (lives s.places) sound.tree.earlier below.within sound.births sl)
       p (length s.places) (omega arith)
-      (ap (λ (y : Shape). target_sort y.sort) (ap (shape_at (shapes s.places ++ shape new_step ∷ [])) (sym size) ∙ shape_new (shapes s.places) (shape new_step)))
+      (ap (λ (y : Shape). target_sort y.sort) (ap (shape_at (shapes s.places ++ shape new_step ∷ [])) (sym (length-map s.places shape)) ∙ shape_new (shapes s.places) (shape new_step)))
       nobody (λ y w. counted_at y)
 
   slots_on : SoundSlots (shapes s.places ++ shape new_step ∷ []) (counts s.places ++ 0 ∷ []) s.makes (length s.rows) s.room.targets s.slots
   slots_on =
       slots_place (shapes s.places) (shape new_step) (counts s.places) s.makes (length s.rows) s.room.targets s.slots sound.slots
-      (length-map s.places (λ (y : Place). targets_of y.kind) ∙ sym size) s.makes (length s.rows) (omega arith) (omega arith) (λ e. absurd (step_target e)) (λ e. absurd (step_make e))
+      (sized s.places (λ (y : Place). targets_of y.kind)) s.makes (length s.rows) (omega arith) (omega arith) (λ e. absurd (step_target e)) (λ e. absurd (step_make e))
 
   pub stepped_sound : Sound (born_at s p (with_step s m t) (length s.places))
   stepped_sound =
@@ -248,7 +235,7 @@ module _ (s : Build) (sound : Sound s) (more : s.number + 1 ≤ last_number) (p 
       let x = length s.places in
       let lp = length_changed one_more ready (line (parents ready) (length s.places)) in
       let rs = ready_size in
-      let z = size in
+      let z = length-map s.places shape in
       let sl = length-map s.places (λ (y : Place). start_of y.kind) in
       let long = length-set (starts s.places) m (start_of (kind_begun (s.number + 1) (kind_at s.places m))) in
       let se = length-map s.places (λ (y : Place). end_of y.kind) in

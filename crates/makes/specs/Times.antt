@@ -1,13 +1,13 @@
 -- The starts and ends of makes and steps, event by event.
 use Rattle.std.specs.Prelude.{◌≡◌, ℕ, ◌+◌, ◌<◌, ◌≤◌, Bool, true, false, cond, ◌⊎◌, List, [], ◌∷◌, ◌++◌, length, get_or, is_some, Some, None, Option, ◌==◌, ◌≢◌, nat_eq, slice_index, slice_index_or, slice_set, refl}
-use Rattle.std.proofs.Common.{inl, inr, ⊎_elim, sym, ap, subst, ◌∙◌, arith}
+use Rattle.std.proofs.Common.{⊎_elim, sym, ap, subst, ◌∙◌, arith}
 use Rattle.std.proofs.lemmas.Option.{none-some, same_Some}
 use Rattle.std.proofs.lemmas.List.{length_push, length-set, get_or_append_left, get_or_push, get_or_past, get_or-set_same, get_or-set_other}
 use Rattle.std.proofs.lemmas.Bool.{false≢true, ne_eqb, cases_eq, cases_order}
 use Rattle.makes.specs.Places.{step, Shape, shape_at, parents_of}
 use Rattle.makes.specs.Sound.{lasting, SoundTree, SoundTimes}
 use Rattle.makes.specs.Tree.{up, holds}
-use Rattle.makes.specs.Shapes.{shape_old, shape_new, up_old, up_new, above_target, above_step}
+use Rattle.makes.specs.Shapes.{shape_old, new_or_old, shape_new, up_old, up_new, above_target, above_step}
 
 -- a later number
 pub times_later : (n m : ℕ) (ts : List Shape) (ls : List ℕ) (ss es : List (Option ℕ)) → n ≤ m → SoundTimes n ts ls ss es → SoundTimes m ts ls ss es
@@ -47,9 +47,6 @@ still_open false o l some was = was
 -- A place more.
 module _ (n : ℕ) (ts : List Shape) (ls : List ℕ) (ss es : List (Option ℕ)) (sound : SoundTimes n ts ls ss es) (t : Shape) (l : ℕ) (tree : SoundTree ts)
     (sized-l : length ls ≡ length ts) (sized-s : length ss ≡ length ts) (sized-e : length es ≡ length ts) where
-  old_or_new : (x : ℕ) → x < length (ts ++ t ∷ []) → (x ≡ length ts) ⊎ (x < length ts)
-  old_or_new x h = let m = length_push ts t in ⊎_elim inl (⊎_elim inr (λ gt. absurd (omega arith))) (cases_order x (length ts))
-
   new_sort : (x : ℕ) → x ≡ length ts → (shape_at (ts ++ t ∷ []) x).sort ≡ t.sort
   new_sort x is = ap (λ (s : Shape). s.sort) (ap (shape_at (ts ++ t ∷ [])) is ∙ shape_new ts t)
 
@@ -73,7 +70,7 @@ module _ (n : ℕ) (ts : List Shape) (ls : List ℕ) (ss es : List (Option ℕ))
         ap (λ y. is_some (slice_index_or (ss ++ None ∷ []) y None)) two.0
         ∙ ap is_some (get_or_append_left ss (None ∷ []) None (up (parents_of ts) (up (parents_of ts) x)) (omega arith))
         ∙ sound.started x lt s)
-        (old_or_new x h);
+        (new_or_old ts t x h);
     over = λ x h lasts.
         ⊎_elim
         (λ is.
@@ -81,7 +78,7 @@ module _ (n : ℕ) (ts : List Shape) (ls : List ℕ) (ss es : List (Option ℕ))
         (λ lt.
         ap is_some (get_or_append_left es (None ∷ []) None x (omega arith)) ∙ sound.over x lt (sym (ap lasting (old_sort x lt)) ∙ lasts)
         ∙ ap (λ z. nat_eq z 0) (sym (get_or_append_left ls (l ∷ []) 0 x (omega arith))))
-        (old_or_new x h);
+        (new_or_old ts t x h);
   }
 
   -- A step that starts now, below a target of the make m, which has begun; where the step counts, somebody was before it.
@@ -130,7 +127,7 @@ module _ (n : ℕ) (ts : List Shape) (ls : List ℕ) (ss es : List (Option ℕ))
               (λ is. ap is_some (ap (λ w. get_or (slice_set ss m begun) w None) is ∙ get_or-set_same ss m begun None (omega arith)) ∙ begun_some)
               (λ ne. ap is_some (get_or-set_other ss m (up (parents_of ts) (up (parents_of ts) x)) begun None ne) ∙ sound.started x lt s)
               (cases_eq (up (parents_of ts) (up (parents_of ts) x)) m))
-              (old_or_new x h);
+              (new_or_old ts t x h);
           over = λ x h lasts.
               ⊎_elim
               (λ is. ap is_some (get_or_push es None None x (sized-e ∙ sym is)) ∙ sym (ap (λ z. nat_eq z 0) (ap (λ y. slice_index after y) is ∙ new-one)))
@@ -139,7 +136,7 @@ module _ (n : ℕ) (ts : List Shape) (ls : List ℕ) (ss es : List (Option ℕ))
               ap is_some (get_or_append_left es (None ∷ []) None x (omega arith))
               ∙ still_open (holds (parents_of (ts ++ t ∷ [])) x (length ts)) (slice_index_or es x None) (slice_index ls x) (λ held. peopled x lt held last) (sound.over x lt last)
               ∙ ap (λ z. nat_eq z 0) (sym (one_more x lt)))
-              (old_or_new x h);
+              (new_or_old ts t x h);
         }
 
 -- A process born where somebody was: nothing starts or ends.

@@ -123,11 +123,6 @@ module _ (us : List ℕ) (earlier : Earlier us) where
   pub branch_apart : {c s x : ℕ} → Branch us c s x → s ≢ c
   branch_apart {c} {s} b e = let l = earlier s b.below in let p = b.parent in omega arith
 
-  -- a side that is not the place itself is a branch
-  side_branch : {c s x : ℕ} → Side us c s x → (s ≢ c) → Branch us c s x
-  side_branch (inl a) ne = absurd (ne a.0)
-  side_branch (inr b) ne = b
-
   pub lowest_only : {x y c d : ℕ} → Lowest us x y c → Lowest us x y d → c ≡ d
   lowest_only {x} {y} {c} {d} a b = holds_same (b.least c a.first a.second) (a.least d b.first b.second)
 
@@ -310,10 +305,6 @@ module _ (us vs : List ℕ) (earlier : Earlier us) (n : ℕ) (agree : (x : ℕ) 
 
   pub holds_kept : (x y : ℕ) → y < n → holds vs x y ≡ holds us x y
   holds_kept x y h = ap (among x) (line_same y h)
-
-  pub Holds-kept : {x y : ℕ} → y < n → Holds us x y → Holds vs x y
-  Holds-kept h itself = itself
-  Holds-kept {x} {y} h (under p i) = let e = earlier y p in under p (subst (Holds vs x) (sym (agree y h)) (Holds-kept (omega arith) i))
 
   climb_agrees : (k x y l r : ℕ) → x < n → y < n → climb_in vs k x y l r ≡ climb_in us k x y l r
   climb_agrees zero x y l r h i = refl

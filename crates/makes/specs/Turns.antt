@@ -1,5 +1,5 @@
 -- A process that turns out to be a make, and a make's new target, keep what reachable states have.
-use Rattle.std.specs.Prelude.{◌≡◌, ℕ, ◌+◌, ◌-◌, ◌*◌, ◌<◌, ◌≤◌, true, false, ◌&&◌, List, [], ◌∷◌, ◌++◌, map, length, None, nat_le, slice_index, slice_index_or, slice_set, refl}
+use Rattle.std.specs.Prelude.{◌≡◌, ℕ, ◌+◌, ◌-◌, ◌*◌, ◌<◌, ◌≤◌, true, false, ◌&&◌, List, [], ◌∷◌, ◌++◌, length, None, nat_le, slice_index, slice_index_or, slice_set, refl}
 use Rattle.std.proofs.Common.{inl, sym, ap, subst, ◌∙◌, arith}
 use Rattle.std.proofs.lemmas.Nat.{mul-add-lt}
 use Rattle.std.proofs.lemmas.List.{length-map, length_push, length-set, map_push, map-set, get_or_append_left, set-append_left}
@@ -10,7 +10,7 @@ use Rattle.makes.specs.declared.places.Kind.TheVariants.{Make, Target}
 use Rattle.makes.specs.declared.places.Place.{Place}
 use Rattle.makes.specs.declared.places.Status.TheVariants.{Unstarted}
 use Rattle.makes.specs.Machine.{Build, turned_make, declared, rows_of, slots_from}
-use Rattle.makes.specs.Places.{make, target, step, make_sort, stand_sort, is_make, ordinal_of, targets_of, start_of, end_of, kind_declared, with_kind, no_place, place_at, kind_at, Shape, shape, shapes, shape_at, counts, lives, starts, ends, birth_at, all_declared, row_in}
+use Rattle.makes.specs.Places.{make_sort, stand_sort, is_make, ordinal_of, targets_of, start_of, end_of, kind_declared, with_kind, no_place, place_at, kind_at, Shape, shape, shapes, shape_at, counts, lives, starts, ends, birth_at, all_declared, row_in}
 use Rattle.makes.specs.Sound.{SoundTree, SoundTimes, SoundBirths, SoundSlots, Sound, TargetOf}
 use Rattle.makes.specs.Entries.{neither_stands}
 use Rattle.makes.specs.Rows.{joined_row}
@@ -19,31 +19,16 @@ use Rattle.makes.specs.Judging.{sort_is, row_is}
 use Rattle.makes.specs.Sorts.{declared_shape, declared_targets, declared_start, declared_end}
 use Rattle.makes.specs.Later.{Later}
 use Rattle.makes.specs.Lodgers.{births_place, births_make}
-use Rattle.makes.specs.Shapes.{shape_is, count_is, shape_old, shape_new, tree_more, is_make_sort}
-use Rattle.makes.specs.Slots.{count_more, slots_place, slots_target}
+use Rattle.makes.specs.Shapes.{shape_is, in_shapes, sized, count_is, shape_old, shape_new, tree_more, make_shape, make_step, make_target, target_step, target_make}
+use Rattle.makes.specs.Slots.{default_more, slots_place, slots_target}
 use Rattle.makes.specs.Times.{times_place}
 use Rattle.makes.specs.Walks.{map_set_same}
-
-make_step : make ≡ step → ⊥
-make_step e = cc
-
-make_target : make ≡ target → ⊥
-make_target e = cc
-
-target_step : target ≡ step → ⊥
-target_step e = cc
-
-target_make : target ≡ make → ⊥
-target_make e = cc
 
 -- The birth i turns into a make.
 module _ (s : Build) (sound : Sound s) (more : s.number + 1 ≤ last_number) (i : ℕ) (in_table : i < length s.births) (alive : (birth_at s.births i).live ≡ true)
     (no_make : is_make (kind_at s.places (birth_at s.births i).at) ≡ false) (shallow : (place_at s.places (birth_at s.births i).at).depth < 16) (room : s.makes < s.room.makes) where
   abbrev new_make : Place
   new_make = record { parent = (birth_at s.births i).at; depth = (place_at s.places (birth_at s.births i).at).depth + 1; live = 1; kind = Make (record { status = Unstarted; ordinal = s.makes; targets = 0 }) }
-
-  size : length (shapes s.places) ≡ length s.places
-  size = length-map s.places shape
 
   on_shapes : shapes (s.places ++ new_make ∷ []) ≡ shapes s.places ++ shape new_make ∷ []
   on_shapes = map_push shape s.places new_make
@@ -66,9 +51,6 @@ module _ (s : Build) (sound : Sound s) (more : s.number + 1 ≤ last_number) (i 
   fits : stand_sort (shape_at (shapes s.places) (birth_at s.births i).at).sort ≡ true
   fits = neither_stands _ (ap make_sort (sort_is s sound (birth_at s.births i).at) ∙ no_make) (sound.births.homely i in_table)
 
-  sized : {Y : Type 0} (g : Place → Y) → length (map g s.places) ≡ length (shapes s.places)
-  sized g = length-map s.places g ∙ sym size
-
   pub turned_sound : Sound (turned_make s i)
   turned_sound =
       let ts = shapes s.places in
@@ -87,17 +69,17 @@ module _ (s : Build) (sound : Sound s) (more : s.number + 1 ≤ last_number) (i 
             (subst (λ zs. SoundTimes (s.number + 1) (ts ++ t ∷ []) (lives s.places ++ 1 ∷ []) zs (ends (s.places ++ new_make ∷ []))) (sym on_starts)
             (subst (λ zs. SoundTimes (s.number + 1) (ts ++ t ∷ []) (lives s.places ++ 1 ∷ []) (starts s.places ++ None ∷ []) zs) (sym on_ends)
             (times_place s.number ts (lives s.places) (starts s.places) (ends s.places) sound.times t 1 sound.tree
-            (sized (λ (y : Place). y.live)) (sized (λ (y : Place). start_of y.kind)) (sized (λ (y : Place). end_of y.kind)) make_step (λ e. refl)))));
+            (sized s.places (λ (y : Place). y.live)) (sized s.places (λ (y : Place). start_of y.kind)) (sized s.places (λ (y : Place). end_of y.kind)) make_step (λ e. refl)))));
         births =
             subst (λ zs. SoundBirths (turned_make s i).births zs (lives (s.places ++ new_make ∷ []))) (sym on_shapes)
             (subst (λ zs. SoundBirths (turned_make s i).births (ts ++ t ∷ []) zs) (sym on_lives)
-            (subst (λ z. SoundBirths (slice_set s.births i (record { process = (birth_at s.births i).process; at = z; live = (birth_at s.births i).live })) (ts ++ t ∷ []) (lives s.places ++ 1 ∷ [])) size
-            (births_make ts t s.births (lives s.places) sound.tree.earlier home_in_tree sound.births i in_table alive refl refl (sized (λ (y : Place). y.live)))));
+            (subst (λ z. SoundBirths (slice_set s.births i (record { process = (birth_at s.births i).process; at = z; live = (birth_at s.births i).live })) (ts ++ t ∷ []) (lives s.places ++ 1 ∷ [])) (length-map s.places shape)
+            (births_make ts t s.births (lives s.places) sound.tree.earlier home_in_tree sound.births i in_table alive refl refl (sized s.places (λ (y : Place). y.live)))));
         rows = sound.rows;
         slots =
             subst (λ zs. SoundSlots zs (counts (s.places ++ new_make ∷ [])) (s.makes + 1) (length s.rows) s.room.targets s.slots) (sym on_shapes)
             (subst (λ zs. SoundSlots (ts ++ t ∷ []) zs (s.makes + 1) (length s.rows) s.room.targets s.slots) (sym on_counts)
-            (slots_place ts t (counts s.places) s.makes (length s.rows) s.room.targets s.slots sound.slots (sized (λ (y : Place). targets_of y.kind))
+            (slots_place ts t (counts s.places) s.makes (length s.rows) s.room.targets s.slots sound.slots (sized s.places (λ (y : Place). targets_of y.kind))
             (s.makes + 1) (length s.rows) (omega arith) (omega arith) (λ e. absurd (make_target e)) (λ e. (refl, omega arith))));
         room = record {
           births = omega arith;
@@ -114,7 +96,7 @@ module _ (s : Build) (sound : Sound s) (more : s.number + 1 ≤ last_number) (i 
   pub turned_later : Later s (turned_make s i)
   turned_later =
       let lp = length_push s.places new_make in
-      let z = size in
+      let z = length-map s.places shape in
       let ls = length-map s.places (λ (y : Place). start_of y.kind) in
       let le = length-map s.places (λ (y : Place). end_of y.kind) in
       record {
@@ -137,18 +119,6 @@ module _ (s : Build) (sound : Sound s) (more : s.number + 1 ≤ last_number) (m 
 
   abbrev after : List Place
   after = slice_set s.places m grown ++ new_target ∷ []
-
-  t_size : length (shapes s.places) ≡ length s.places
-  t_size = length-map s.places shape
-
-  t_sized : {Y : Type 0} (g : Place → Y) → length (map g s.places) ≡ length (shapes s.places)
-  t_sized g = length-map s.places g ∙ sym t_size
-
-  in_tree : m < length (shapes s.places)
-  in_tree = let z = t_size in omega arith
-
-  m_make : (shape_at (shapes s.places) m).sort ≡ make
-  m_make = is_make_sort _ (ap make_sort (sort_is s sound m) ∙ makes)
 
   t_shapes : shapes after ≡ shapes s.places ++ shape new_target ∷ []
   t_shapes =
@@ -176,7 +146,7 @@ module _ (s : Build) (sound : Sound s) (more : s.number + 1 ≤ last_number) (m 
   counts_size = length-map s.places (λ (y : Place). targets_of y.kind)
 
   count_same : slice_index_or (counts s.places ++ 0 ∷ []) m 0 ≡ slice_index (counts s.places) m
-  count_same = count_more (counts s.places) m
+  count_same = default_more (counts s.places) 0 m
 
   t_counts : counts after ≡ slice_set (counts s.places ++ 0 ∷ []) m (slice_index (counts s.places ++ 0 ∷ []) m + 1)
   t_counts =
@@ -188,30 +158,30 @@ module _ (s : Build) (sound : Sound s) (more : s.number + 1 ≤ last_number) (m 
   tree_on : SoundTree (shapes s.places ++ shape new_target ∷ [])
   tree_on =
       let d = ap (λ (z : Shape). z.depth) (shape_is s.places m) in
-      let l = sound.tree.shallow m in_tree in
-      tree_more (shapes s.places) (shape new_target) sound.tree in_tree (ap make_sort m_make) (omega arith) (omega arith)
+      let l = sound.tree.shallow m (in_shapes s.places m_within) in
+      tree_more (shapes s.places) (shape new_target) sound.tree (in_shapes s.places m_within) (ap make_sort (make_shape s.places m makes)) (omega arith) (omega arith)
 
   times_on : SoundTimes (s.number + 1) (shapes s.places ++ shape new_target ∷ []) (lives s.places ++ 0 ∷ []) (starts s.places ++ None ∷ []) (ends s.places ++ None ∷ [])
   times_on =
       times_place s.number (shapes s.places) (lives s.places) (starts s.places) (ends s.places) sound.times (shape new_target) 0 sound.tree
-      (t_sized (λ (y : Place). y.live)) (t_sized (λ (y : Place). start_of y.kind)) (t_sized (λ (y : Place). end_of y.kind)) target_step (λ e. absurd (false≢true e))
+      (sized s.places (λ (y : Place). y.live)) (sized s.places (λ (y : Place). start_of y.kind)) (sized s.places (λ (y : Place). end_of y.kind)) target_step (λ e. absurd (false≢true e))
 
   -- the slot of the new target
   place_slots : SoundSlots (shapes s.places ++ shape new_target ∷ []) (counts s.places ++ 0 ∷ []) s.makes (length s.rows + 1) s.room.targets s.slots
   place_slots =
-      slots_place (shapes s.places) (shape new_target) (counts s.places) s.makes (length s.rows) s.room.targets s.slots sound.slots (t_sized (λ (y : Place). targets_of y.kind))
+      slots_place (shapes s.places) (shape new_target) (counts s.places) s.makes (length s.rows) s.room.targets s.slots sound.slots (sized s.places (λ (y : Place). targets_of y.kind))
       s.makes (length s.rows + 1) (omega arith) (omega arith) (λ e. omega arith) (λ e. absurd (target_make e))
 
   ordinal_same : (shape_at (shapes s.places ++ shape new_target ∷ []) m).ordinal ≡ ordinal_of (kind_at s.places m)
-  ordinal_same = ap (λ (z : Shape). z.ordinal) (shape_old (shapes s.places) (shape new_target) m in_tree ∙ shape_is s.places m)
+  ordinal_same = ap (λ (z : Shape). z.ordinal) (shape_old (shapes s.places) (shape new_target) m (in_shapes s.places m_within) ∙ shape_is s.places m)
 
   slot_is : (shape_at (shapes s.places ++ shape new_target ∷ []) m).ordinal * s.room.targets + slice_index (counts s.places ++ 0 ∷ []) m ≡ slots_from s m + targets_of (kind_at s.places m)
   slot_is = λ i. ordinal_same i * s.room.targets + (count_same ∙ count_is s.places m) i
 
   slot_within : (shape_at (shapes s.places ++ shape new_target ∷ []) m).ordinal * s.room.targets + slice_index (counts s.places ++ 0 ∷ []) m < length s.slots
   slot_within =
-      let o = sound.slots.ordinal m in_tree m_make in
-      let oe = ap (λ (z : Shape). z.ordinal) (shape_old (shapes s.places) (shape new_target) m in_tree) in
+      let o = sound.slots.ordinal m (in_shapes s.places m_within) (make_shape s.places m makes) in
+      let oe = ap (λ (z : Shape). z.ordinal) (shape_old (shapes s.places) (shape new_target) m (in_shapes s.places m_within)) in
       let f = sound.slots.few m in
       let c = count_same in
       let mk = sound.room.makes in
@@ -221,9 +191,9 @@ module _ (s : Build) (sound : Sound s) (more : s.number + 1 ≤ last_number) (m 
 
   own_target : TargetOf (shapes s.places ++ shape new_target ∷ []) m (length s.places)
   own_target =
-      let e = ap (shape_at (shapes s.places ++ shape new_target ∷ [])) (sym t_size) ∙ shape_new (shapes s.places) (shape new_target) in
+      let e = ap (shape_at (shapes s.places ++ shape new_target ∷ [])) (sym (length-map s.places shape)) ∙ shape_new (shapes s.places) (shape new_target) in
       record {
-        within = let z = t_size in let n = length_push (shapes s.places) (shape new_target) in omega arith;
+        within = let z = length-map s.places shape in let n = length_push (shapes s.places) (shape new_target) in omega arith;
         sort = ap (λ (y : Shape). y.sort) e;
         parent = ap (λ (y : Shape). y.parent) e;
       }
@@ -234,18 +204,18 @@ module _ (s : Build) (sound : Sound s) (more : s.number + 1 ≤ last_number) (m 
       let lt = length_push (shapes s.places) (shape new_target) in
       let lc = length_push (counts s.places) 0 in
       let cs = counts_size in
-      let z = t_size in
+      let z = length-map s.places shape in
       let f = sound.slots.few m in
       let c = count_same in
       slots_target (shapes s.places ++ shape new_target ∷ []) (counts s.places ++ 0 ∷ []) s.makes (length s.rows + 1) s.room.targets s.slots place_slots m (length s.places)
-      (omega arith) (omega arith) (ap (λ (y : Shape). y.sort) (shape_old (shapes s.places) (shape new_target) m in_tree) ∙ m_make) (omega arith) (omega arith) slot_within own_target
+      (omega arith) (omega arith) (ap (λ (y : Shape). y.sort) (shape_old (shapes s.places) (shape new_target) m (in_shapes s.places m_within)) ∙ (make_shape s.places m makes)) (omega arith) (omega arith) slot_within own_target
 
   -- the prerequisites are earlier targets
   row_below : (k : ℕ) → 1 ≤ k → k ≤ targets_of (kind_at s.places m) → row_in s.places s.slots (slots_from s m) k < length s.rows
   row_below k low high =
       let c = count_is s.places m in
       let t = subst (λ o. TargetOf (shapes s.places) m (slice_index s.slots (o * s.room.targets + (k - 1)))) (ap (λ (y : Shape). y.ordinal) (shape_is s.places m))
-      (sound.slots.slotted m (k - 1) in_tree m_make (omega arith)) in
+      (sound.slots.slotted m (k - 1) (in_shapes s.places m_within) (make_shape s.places m makes) (omega arith)) in
       let r = sound.slots.row (slice_index s.slots (slots_from s m + (k - 1))) t.within t.sort in
       let e = row_is s sound (slice_index s.slots (slots_from s m + (k - 1))) in
       omega arith
@@ -275,7 +245,7 @@ module _ (s : Build) (sound : Sound s) (more : s.number + 1 ≤ last_number) (m 
         births =
             subst (λ zs. SoundBirths s.births zs (lives after)) (sym t_shapes)
             (subst (λ zs. SoundBirths s.births (shapes s.places ++ shape new_target ∷ []) zs) (sym t_lives)
-            (births_place (shapes s.places) (shape new_target) s.births (lives s.places) sound.tree.earlier in_tree sound.births (t_sized (λ (y : Place). y.live))));
+            (births_place (shapes s.places) (shape new_target) s.births (lives s.places) sound.tree.earlier (in_shapes s.places m_within) sound.births (sized s.places (λ (y : Place). y.live))));
         rows = rows_more s.rows (rows_of s m ks) (omega arith) sound.rows (rows_below ks all);
         slots =
             subst (λ n. SoundSlots (shapes after) (counts after) s.makes n s.room.targets (declared s m ks).slots) (sym lr)
@@ -297,7 +267,7 @@ module _ (s : Build) (sound : Sound s) (more : s.number + 1 ≤ last_number) (m 
   pub declared_later : Later s (declared s m ks)
   declared_later =
       let lp = length_push (slice_set s.places m grown) new_target ∙ ap (λ n. n + 1) (length-set s.places m grown) in
-      let z = t_size in
+      let z = length-map s.places shape in
       let ls = length-map s.places (λ (y : Place). start_of y.kind) in
       let le = length-map s.places (λ (y : Place). end_of y.kind) in
       record {
