@@ -11,7 +11,7 @@ mod rules;
 
 pub use accesses::{Access, Checked, Kind, Race};
 pub use attempts::Directory;
-pub use example::{Seen, made_and_looked_up, two_accesses};
+pub use example::{Seen, SeenLookup, made_and_looked_up, two_accesses};
 pub use kept::History;
 pub use keys::{EqualTo, InodePair, Row, find, find_pair, find_path};
 pub use rules::{ConflictRule, ContentsRule, PathRule};
