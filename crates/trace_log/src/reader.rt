@@ -12,7 +12,7 @@ const VERSION: u8 = 1;
 // Stands before a record of a log or at its end.
 #[derive(Drop)]
 pub struct Reader<'a> {
-    // How many bytes the log has.
+    // How many bytes the log has, of which `left` is the end: the place of the reader is told by the two.
     size: usize,
     // The bytes that are not read yet.
     left: &'a [u8],
