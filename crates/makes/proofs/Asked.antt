@@ -115,11 +115,8 @@ module _ (s : Build) (sound : Sound s) (m : ℕ) (made : is_make (kind_at s.plac
   ordinal_is : (shape_at (shapes s.places) m).ordinal ≡ ordinal_of (kind_at s.places m)
   ordinal_is = ap (λ (y : Shape). y.ordinal) (shape_is s.places m)
 
-  in_tree : m < length (shapes s.places)
-  in_tree = in_shapes s.places (make_within s.places m made)
-
   ordinal_low : ordinal_of (kind_at s.places m) < s.makes
-  ordinal_low = let o = sound.slots.ordinal m in_tree (make_shape s.places m made) in let i = ordinal_is in omega arith
+  ordinal_low = let o = sound.slots.ordinal m (in_shapes s.places (make_within s.places m made)) (make_shape s.places m made) in let i = ordinal_is in omega arith
 
   pub first_few : slots_from s m ≤ 32768
   first_few =
@@ -157,7 +154,7 @@ ready s sound m k has =
     let c = count_is s.places m in
     let f = targets_few s sound m made in
     let t = subst (λ o. TargetOf (shapes s.places) m (get_or s.slots (o * s.room.targets + (k - 1)) 0)) (ordinal_is s sound m made)
-    (sound.slots.slotted m (k - 1) (in_tree s sound m made) (make_shape s.places m made) (omega arith)) in
+    (sound.slots.slotted m (k - 1) (in_shapes s.places (make_within s.places m made)) (make_shape s.places m made) (omega arith)) in
     let r = sound.slots.row (target_at s m k) t.within t.sort in
     let same = row_is s sound (target_at s m k) in
     let rows = sound.room.targets in

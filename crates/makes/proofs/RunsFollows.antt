@@ -14,11 +14,12 @@ use Rattle.makes.specs.Runs.{next_place, place_in, make_in, is_place, the, targe
 use Rattle.makes.specs.Sound.{Sound}
 use Rattle.makes.specs.Entries.{more_shapes, more_counts, stand_within, stand_is_stand}
 use Rattle.makes.specs.Found.{Found, Nobody, live_decides}
+use Rattle.makes.specs.Columns.{new_step, new_make, new_target, made_shapes, grown_shapes}
 use Rattle.makes.specs.Deaths.{died_shapes, died_counts}
 use Rattle.makes.specs.Later.{Later}
 use Rattle.makes.specs.Lodgers.{birth_cases, set_cases}
 use Rattle.makes.proofs.RunsEvents.{Parent, parent_home_is}
-use Rattle.makes.proofs.RunsPlaces.{new_step, new_make, new_target, step_shapes, make_shapes, target_shapes, step_counts, make_counts, target_count_own, target_count_other, Standing, Follows, stand_shape, own_shape, standing_on, stands_no_make, size, found_stands, housed, found_make, parent_make, parent_within, parent_place, target_told, more_sorts, more_parents, new_shape, newest_stand, newest_own, counted_more, slotted_on, declared_on}
+use Rattle.makes.proofs.RunsPlaces.{step_shapes, step_counts, make_counts, target_count_own, target_count_other, Standing, Follows, stand_shape, own_shape, standing_on, stands_no_make, size, found_stands, housed, found_make, parent_make, parent_within, parent_place, target_told, more_sorts, more_parents, new_shape, newest_stand, newest_own, counted_more, slotted_on, declared_on}
 use Rattle.makes.specs.Shapes.{shape_is, in_shapes, count_is, make_shape}
 
 -- a birth leaves the other processes where they are
@@ -127,7 +128,7 @@ module _ {calls : List Call} (s : Build) (f : Follows calls s) (sound : Sound s)
         let after = tell (make p) ∷ calls in
         let home = length s.places in
         let y = new_make s i in
-        let on_shapes = make_shapes s i in
+        let on_shapes = made_shapes s i in
         let same_counts : (x : ℕ) → get_or (counts made_state.places) x 0 ≡ get_or (counts s.places) x 0 = make_counts s i in
         let is-new = ap (λ (z : Shape). make_sort z.sort) (new_shape s made_state y on_shapes) in
         record {
@@ -294,7 +295,7 @@ module _ {calls : List Call} (s : Build) (f : Follows calls s) (sound : Sound s)
     unfolding Slotted
     target_follows =
         let y = new_target s h in
-        let on_shapes = target_shapes s h ks in
+        let on_shapes = grown_shapes s h ks in
         let up-own = target_count_own s h ks h_within makes in
         let up-other = target_count_other s h ks h_within makes in
         record {

@@ -25,14 +25,11 @@ session_lasts_not : (k : Sort) → k ≡ session → lasting k ≡ true → ⊥
 session_lasts_not k e l = false≢true (sym (ap lasting e) ∙ l)
 
 module _ {calls : List Call} {s : Build} (w : Whole calls s) where
-  told : (x : ℕ) → sort_in calls x ≡ (shape_at (shapes s.places) x).sort
-  told = sort_told w.follows w.sound
-
   -- where processes stand is the session or a step
   pub stand_told : (x : ℕ) → x < length s.places → is_stand (kind_at s.places x) ≡ true → (x ≡ 0) ⊎ (sort_in calls x ≡ step)
   stand_told x within stands =
       ⊎_elim inl
-      (λ ne. inr (told x ∙ stand_step s w.sound x (omega arith) (in_shapes s.places within) (ap stand_sort (sort_is s w.sound x) ∙ stands)))
+      (λ ne. inr (sort_told w.follows w.sound x ∙ stand_step s w.sound x (omega arith) (in_shapes s.places within) (ap stand_sort (sort_is s w.sound x) ∙ stands)))
       (cases_eq x 0)
 
   -- what has a sort that lasts is in the table
@@ -42,7 +39,7 @@ module _ {calls : List Call} {s : Build} (w : Whole calls s) where
       ⊎_elim (λ h. h) (λ past. absurd (session_lasts_not (sort_in calls x) (get_or_past (sorts_in calls) x session (omega arith)) l)) (cases_lt x (length s.places))
 
   lasts : (x : ℕ) → lasting (sort_in calls x) ≡ true → lasting (shape_at (shapes s.places) x).sort ≡ true
-  lasts x l = ap lasting (sym (told x)) ∙ l
+  lasts x l = ap lasting (sym (sort_told w.follows w.sound x)) ∙ l
 
   stands_at : (p x : ℕ) → place_in calls p ≡ Some x → (x ≡ 0) ⊎ (sort_in calls x ≡ step)
   stands_at p x e =
@@ -58,7 +55,7 @@ module _ {calls : List Call} {s : Build} (w : Whole calls s) where
       let h = (birth_at s.births f.0).at in
       let st = found_stands w.follows w.sound f.1 in
       let at = own_home (is_make (kind_at s.places h)) h m (sym st.own ∙ e) in (
-        told m ∙ is_make_sort _ (ap (λ y. make_sort (shape_at (shapes s.places) y).sort) (sym at.1) ∙ ap make_sort (sort_is s w.sound h) ∙ at.0),
+        sort_told w.follows w.sound m ∙ is_make_sort _ (ap (λ y. make_sort (shape_at (shapes s.places) y).sort) (sym at.1) ∙ ap make_sort (sort_is s w.sound h) ∙ at.0),
         st.place ∙ ap Some (stand_above w.follows w.sound h at.0 ∙ ap (up (parents s.places)) at.1 ∙ ap (λ us. up us m) w.follows.tree),
       )
 
@@ -72,20 +69,20 @@ module _ {calls : List Call} {s : Build} (w : Whole calls s) where
       let sort = make_shape s.places m (targets_make (kind_at s.places m) (omega arith)) in
       let t = subst (TargetOf (shapes s.places) m) (w.follows.slotted m k within sort (omega arith)) (w.sound.slots.slotted m k (in_shapes s.places within) sort (omega arith)) in
       let y = get_or (targets_in calls m) k 0 in
-      (told y ∙ t.sort, ap (λ us. up us y) (sym w.follows.tree) ∙ up_shape s.places y ∙ t.parent)
+      (sort_told w.follows w.sound y ∙ t.sort, ap (λ us. up us y) (sym w.follows.tree) ∙ up_shape s.places y ∙ t.parent)
 
   fits_at : (x : ℕ) → 0 < x → x < next_place calls → fits_below (sort_in calls x) (sort_in calls (up (parents_in calls) x)) ≡ true
   fits_at x p low =
       let n = size w.follows w.sound in
-      (λ i. fits_below (told x i) (sort_in calls (up (sym w.follows.tree i) x)))
-      ∙ ap (fits_below (shape_at (shapes s.places) x).sort) (told (up (parents s.places) x))
+      (λ i. fits_below (sort_told w.follows w.sound x i) (sort_in calls (up (sym w.follows.tree i) x)))
+      ∙ ap (fits_below (shape_at (shapes s.places) x).sort) (sort_told w.follows w.sound (up (parents s.places) x))
       ∙ w.sound.tree.fitting x p (in_shapes s.places (omega arith))
 
   shallow_at : (x : ℕ) → x < next_place calls → (count_by (λ y. make_sort (sort_in calls y)) (line (parents_in calls) x) ≤ 16) × (levels (parents_in calls) x ≤ 48)
   shallow_at x low =
       let n = size w.follows w.sound in
       let within : x < length (shapes s.places) = in_shapes s.places (omega arith) in
-      let same : count_by (λ y. make_sort (sort_in calls y)) (line (parents s.places) x) ≡ count_by (λ y. make_sort (shape_at (shapes s.places) y).sort) (line (parents s.places) x) = λ i. count_by (λ y. make_sort (told y i)) (line (parents s.places) x) in
+      let same : count_by (λ y. make_sort (sort_in calls y)) (line (parents s.places) x) ≡ count_by (λ y. make_sort (shape_at (shapes s.places) y).sort) (line (parents s.places) x) = λ i. count_by (λ y. make_sort (sort_told w.follows w.sound y i)) (line (parents s.places) x) in
       let makes = same ∙ w.sound.tree.deep x within in
       let few = w.sound.tree.shallow x within in (
         subst (λ us. count_by (λ y. make_sort (sort_in calls y)) (line us x) ≤ 16) w.follows.tree (omega arith),
@@ -98,11 +95,11 @@ module _ {calls : List Call} {s : Build} (w : Whole calls s) where
       (r.0, w.timed.starts_to x r.0 r.1)
     where
       by_sort : (k : Sort) → (shape_at (shapes s.places) x).sort ≡ k → is_some (get_or (starts s.places) x None) ≡ true
-      by_sort session e = absurd (session_lasts_not _ (told x ∙ e) l)
+      by_sort session e = absurd (session_lasts_not _ (sort_told w.follows w.sound x ∙ e) l)
       by_sort a_make e =
           held_started s w.sound x y (subst (λ us. Holds us x y) (sym w.follows.tree) held) e
-          (in_shapes s.places (lasting_within y (ap lasting is-step))) (ap stand_sort (sym (told y) ∙ is-step))
-      by_sort a_target e = absurd (false≢true (sym (ap lasting (told x ∙ e)) ∙ l))
+          (in_shapes s.places (lasting_within y (ap lasting is-step))) (ap stand_sort (sym (sort_told w.follows w.sound y) ∙ is-step))
+      by_sort a_target e = absurd (false≢true (sym (ap lasting (sort_told w.follows w.sound x ∙ e)) ∙ l))
       by_sort step e = ap is_some (start_is s.places x) ∙ step_started (kind_at s.places x) (sym (sort_is s w.sound x) ∙ e)
 
   -- ended exactly if the count is 0

@@ -1,33 +1,24 @@
 -- Over a run, the state's tree, processes and targets are those that the calls tell.
 use Rattle.std.proofs.Common.{◌≡◌, ℕ, zero, suc, ◌+◌, ◌-◌, ◌*◌, ◌<◌, ◌≤◌, true, false, cond, eqb, List, [], ◌∷◌, ◌++◌, map, length, get_or, set, Some, None, Option, sym, refl, ap, ◌∙◌, subst, inl, inr, ⊎_elim, add-one, arith}
-use Rattle.std.proofs.lemmas.List.{length-map, length_push, map_push, map-set, get_or_past, get_or-set_same, get_or-set_other}
+use Rattle.std.proofs.lemmas.List.{length-map, length_push, map_push, get_or_past, get_or-set_same, get_or-set_other}
 use Rattle.std.proofs.lemmas.Bool.{false≢true, eq-eqb, ne_eqb, cond-true, cond-false, cases_lt}
 use Rattle.order.specs.Runs.{Call}
-use Rattle.makes.specs.declared.places.Kind.TheVariants.{Make, Target, Step}
-use Rattle.makes.specs.declared.places.Status.TheVariants.{Unstarted}
 use Rattle.makes.specs.declared.places.Place.{Place}
 use Rattle.makes.specs.Machine.{Build, lives_in, born_at, with_step, turned_make, declared, target_at}
-use Rattle.makes.specs.Places.{Sort, session, make as a_make, target as a_target, step, make_sort, stand_sort, is_make, targets_of, kind_begun, kind_declared, with_kind, no_place, place_at, kind_at, Shape, shape, shapes, shape_at, parents_of, parents, counts, stand, birth_at}
+use Rattle.makes.specs.Places.{Sort, session, make as a_make, target as a_target, step, make_sort, stand_sort, is_make, targets_of, place_at, kind_at, Shape, shape, shapes, shape_at, parents_of, parents, counts, stand, birth_at}
 use Rattle.makes.specs.Runs.{sorts_in, sort_in, next_place, place_in, make_in, targets_in, target_in, parents_in}
 use Rattle.makes.specs.Sound.{Sound}
+use Rattle.makes.specs.Columns.{new_step, ready_shapes, ready_counts, made_counts, grown_counts}
 use Rattle.makes.specs.Entries.{more_shapes, more_counts}
 use Rattle.makes.specs.Found.{Found}
 use Rattle.makes.specs.Later.{Later}
 use Rattle.makes.proofs.RunsEvents.{Parent}
 use Rattle.makes.specs.Shapes.{shape_is, count_is, shape_new, make_shape}
 use Rattle.makes.specs.Slots.{default_more}
-use Rattle.makes.specs.Sorts.{begun_shape, begun_targets, declared_shape, declared_targets}
-use Rattle.makes.specs.Walks.{map_set_same}
 
--- the new place of each event that makes one
-abbrev pub new_step : Build → ℕ → ℕ → Place
-new_step s m t = record { parent = target_at s m t; depth = (place_at s.places m).depth; live = 0; kind = Step (s.number + 1) None }
-
-abbrev pub new_make : Build → ℕ → Place
-new_make s i = record { parent = (birth_at s.births i).at; depth = (place_at s.places (birth_at s.births i).at).depth + 1; live = 1; kind = Make (record { status = Unstarted; ordinal = s.makes; targets = 0 }) }
-
-abbrev pub new_target : Build → ℕ → Place
-new_target s m = record { parent = m; depth = (place_at s.places m).depth; live = 0; kind = Target (length s.rows) }
+-- the same shapes, as many places
+pub same_size : (s t : Build) → shapes t.places ≡ shapes s.places → length t.places ≡ length s.places
+same_size s t e = sym (length-map t.places shape) ∙ ap length e ∙ length-map s.places shape
 
 -- One place more: how many there are, and the shape of the new one.
 module _ (s t : Build) (y : Place) (e : shapes t.places ≡ shapes s.places ++ shape y ∷ []) where
@@ -41,61 +32,29 @@ module _ (s t : Build) (y : Place) (e : shapes t.places ≡ shapes s.places ++ s
   new_shape =
       ap (λ ts. shape_at ts (length s.places)) e ∙ ap (shape_at (shapes s.places ++ shape y ∷ [])) (sym (length-map s.places shape)) ∙ shape_new (shapes s.places) (shape y)
 
--- The shapes after each event.
+-- The shapes after the birth of a step.
 module _ (s : Build) where
-  begun_place : ℕ → Place
-  begun_place m = with_kind (place_at s.places m) (kind_begun (s.number + 1) (kind_at s.places m))
-
   pub step_shapes : (p m t : ℕ) → shapes (born_at s p (with_step s m t) (length s.places)).places ≡ shapes s.places ++ shape (new_step s m t) ∷ []
-  unfolding begun_place
-  step_shapes p m t =
-      more_shapes (with_step s m t) (length s.places)
-      ∙ map_push shape (set s.places m (begun_place m)) (new_step s m t)
-      ∙ ap (λ ts. ts ++ shape (new_step s m t) ∷ []) (map_set_same shape s.places m (begun_place m) no_place (begun_shape (s.number + 1) (place_at s.places m) (kind_at s.places m)))
-
-  pub make_shapes : (i : ℕ) → shapes (turned_make s i).places ≡ shapes s.places ++ shape (new_make s i) ∷ []
-  make_shapes i = map_push shape s.places (new_make s i)
-
-  grown_place : ℕ → Place
-  grown_place m = with_kind (place_at s.places m) (kind_declared (kind_at s.places m))
-
-  pub target_shapes : (m : ℕ) (ks : List ℕ) → shapes (declared s m ks).places ≡ shapes s.places ++ shape (new_target s m) ∷ []
-  unfolding grown_place
-  target_shapes m ks =
-      map_push shape (set s.places m (grown_place m)) (new_target s m)
-      ∙ ap (λ ts. ts ++ shape (new_target s m) ∷ []) (map_set_same shape s.places m (grown_place m) no_place (declared_shape 0 (place_at s.places m) (kind_at s.places m)))
+  step_shapes p m t = more_shapes (with_step s m t) (length s.places) ∙ ready_shapes s m t
 
   -- how many targets each make has
   pub step_counts : (p m t x : ℕ) → get_or (counts (born_at s p (with_step s m t) (length s.places)).places) x 0 ≡ get_or (counts s.places) x 0
-  unfolding begun_place
-  step_counts p m t x =
-      ap (λ cs. get_or cs x 0)
-      (more_counts (with_step s m t) (length s.places)
-      ∙ map_push (λ (y : Place). targets_of y.kind) (set s.places m (begun_place m)) (new_step s m t)
-      ∙ ap (λ cs. cs ++ 0 ∷ []) (map_set_same (λ (y : Place). targets_of y.kind) s.places m (begun_place m) no_place (begun_targets (s.number + 1) (kind_at s.places m))))
-      ∙ default_more (counts s.places) 0 x
+  step_counts p m t x = ap (λ cs. get_or cs x 0) (more_counts (with_step s m t) (length s.places) ∙ ready_counts s m t) ∙ default_more (counts s.places) 0 x
 
   pub make_counts : (i x : ℕ) → get_or (counts (turned_make s i).places) x 0 ≡ get_or (counts s.places) x 0
-  make_counts i x = ap (λ cs. get_or cs x 0) (map_push (λ (y : Place). targets_of y.kind) s.places (new_make s i)) ∙ default_more (counts s.places) 0 x
+  make_counts i x = ap (λ cs. get_or cs x 0) (made_counts s i) ∙ default_more (counts s.places) 0 x
 
   -- a new target of the make m
   module _ (m : ℕ) (ks : List ℕ) (within : m < length s.places) (makes : is_make (kind_at s.places m) ≡ true) where
-    target_counts : counts (declared s m ks).places ≡ set (counts s.places) m (get_or (counts s.places) m 0 + 1) ++ 0 ∷ []
-    unfolding grown_place
-    target_counts =
-        map_push (λ (y : Place). targets_of y.kind) (set s.places m (grown_place m)) (new_target s m)
-        ∙ ap (λ cs. cs ++ 0 ∷ []) (map-set (λ (y : Place). targets_of y.kind) s.places m (grown_place m))
-        ∙ ap (λ n. set (counts s.places) m n ++ 0 ∷ []) (declared_targets (kind_at s.places m) makes ∙ ap (λ n. n + 1) (sym (count_is s.places m)))
-
     pub target_count_own : get_or (counts (declared s m ks).places) m 0 ≡ get_or (counts s.places) m 0 + 1
     target_count_own =
         let n = length-map s.places (λ (y : Place). targets_of y.kind) in
-        ap (λ cs. get_or cs m 0) target_counts ∙ default_more (set (counts s.places) m (get_or (counts s.places) m 0 + 1)) 0 m
+        ap (λ cs. get_or cs m 0) (grown_counts s m ks makes) ∙ default_more (set (counts s.places) m (get_or (counts s.places) m 0 + 1)) 0 m
         ∙ get_or-set_same (counts s.places) m (get_or (counts s.places) m 0 + 1) 0 (omega arith)
 
     pub target_count_other : (x : ℕ) → (x ≡ m → ⊥) → get_or (counts (declared s m ks).places) x 0 ≡ get_or (counts s.places) x 0
     target_count_other x ne =
-        ap (λ cs. get_or cs x 0) target_counts ∙ default_more (set (counts s.places) m (get_or (counts s.places) m 0 + 1)) 0 x
+        ap (λ cs. get_or cs x 0) (grown_counts s m ks makes) ∙ default_more (set (counts s.places) m (get_or (counts s.places) m 0 + 1)) 0 x
         ∙ get_or-set_other (counts s.places) m x (get_or (counts s.places) m 0 + 1) 0 ne
 
 -- the make that a process with this home is

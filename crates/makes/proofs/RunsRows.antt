@@ -15,11 +15,12 @@ use Rattle.makes.specs.Sound.{Sound, TargetOf}
 use Rattle.makes.specs.Entries.{more_shapes}
 use Rattle.makes.specs.Found.{Found}
 use Rattle.makes.specs.Joins.{reaches, needs_old, needs_new}
+use Rattle.makes.specs.Columns.{new_step, new_make, new_target, made_shapes, grown_shapes}
 use Rattle.makes.specs.Deaths.{died_shapes}
 use Rattle.makes.specs.Later.{Later}
 use Rattle.makes.proofs.Asked.{declared_at}
 use Rattle.makes.proofs.RunsFollows.{declarer}
-use Rattle.makes.proofs.RunsPlaces.{Follows, more_size, new_shape, size, housed, target_told, new_step, new_make, new_target, step_shapes, make_shapes, target_shapes}
+use Rattle.makes.proofs.RunsPlaces.{Follows, same_size, more_size, new_shape, size, housed, target_told, step_shapes}
 use Rattle.makes.specs.Shapes.{shape_is, count_is, make_shape, make_target, step_target}
 
 -- x is the place of a target
@@ -121,10 +122,6 @@ module _ {calls : List Call} (c : Call) (s t : Build) (rowed : Rowed calls s) (l
         }));
   }
 
--- where the shapes stay, so do the targets
-same_size : (s t : Build) → shapes t.places ≡ shapes s.places → length t.places ≡ length s.places
-same_size s t e = sym (length-map t.places shape) ∙ ap length e ∙ length-map s.places shape
-
 -- one place more: an old one, or the new one
 module _ (s t : Build) (y : Place) (e : shapes t.places ≡ shapes s.places ++ shape y ∷ []) where
   old_or_new : (x : ℕ) → TargetPlace t x → (x < length s.places) ⊎ (x ≡ length s.places)
@@ -150,7 +147,7 @@ module _ {calls : List Call} (s : Build) (rowed : Rowed calls s) where
       undeclared (tell (birth p q t)) s u rowed later refl (no_target s u (new_step s h t) (step_shapes s p h t) step_target) tt
 
   pub make_rowed : (p i : ℕ) → Later s (turned_make s i) → Rowed (tell (make p) ∷ calls) (turned_make s i)
-  make_rowed p i later = undeclared (tell (make p)) s (turned_make s i) rowed later refl (no_target s (turned_make s i) (new_make s i) (make_shapes s i) make_target) tt
+  make_rowed p i later = undeclared (tell (make p)) s (turned_make s i) rowed later refl (no_target s (turned_make s i) (new_make s i) (made_shapes s i) make_target) tt
 
   pub death_rowed : (p i : ℕ) → Later s (died s i) → Rowed (tell (death p) ∷ calls) (died s i)
   death_rowed p i later =
@@ -225,7 +222,7 @@ module _ {calls : List Call} (s : Build) (f : Follows calls s) (sound : Sound s)
   rows_few = all_rows row_named 512 ks (λ j low. let a = row_few s sound _ (target_named j low) in let e = row_is_named j low in omega arith)
 
   row_fresh : row_at after fresh ≡ length s.rows
-  row_fresh = ap (λ (y : Shape). y.row) (new_shape s after (new_target s h) (target_shapes s h ks))
+  row_fresh = ap (λ (y : Shape). y.row) (new_shape s after (new_target s h) (grown_shapes s h ks))
 
   needs_fresh : (v : ℕ) → v < 512 → needs after.rows (length s.rows) v ≡ reaches s.rows (rows_of s h ks) v
   needs_fresh v small = needs_new s.rows (rows_of s h ks) v rows_few small
@@ -236,7 +233,7 @@ module _ {calls : List Call} (s : Build) (f : Follows calls s) (sound : Sound s)
       ∙ needs_old s.rows (rows_of s h ks) (row_at s x) (row_at s y) (row_under s sound x hx)
 
   target_cases : (x : ℕ) → TargetPlace after x → TargetPlace s x ⊎ (x ≡ fresh)
-  target_cases x hx = ⊎_elim (λ w. inl (target_before s after later x w hx)) inr (old_or_new s after (new_target s h) (target_shapes s h ks) x hx)
+  target_cases x hx = ⊎_elim (λ w. inl (target_before s after later x w hx)) inr (old_or_new s after (new_target s h) (grown_shapes s h ks) x hx)
 
   row_old : (x : ℕ) → TargetPlace s x → row_at after x < length s.rows
   row_old x hx = let a = row_under s sound x hx in let e = row_later s after later x hx.within in omega arith
@@ -256,8 +253,8 @@ module _ {calls : List Call} (s : Build) (f : Follows calls s) (sound : Sound s)
 
   fresh_target : TargetPlace after fresh
   fresh_target = record {
-    within = let n = more_size s after (new_target s h) (target_shapes s h ks) in omega arith;
-    sort = ap (λ (y : Shape). y.sort) (new_shape s after (new_target s h) (target_shapes s h ks));
+    within = let n = more_size s after (new_target s h) (grown_shapes s h ks) in omega arith;
+    sort = ap (λ (y : Shape). y.sort) (new_shape s after (new_target s h) (grown_shapes s h ks));
   }
 
   needing_named : (j : ℕ) → j < length ks → Needing after fresh (target_at s h (get_or ks j 0))

@@ -1,7 +1,7 @@
 -- Over a run, the starts and ends in the state are those that the calls tell.
 use Rattle.std.proofs.Common.{◌≡◌, ℕ, suc, ◌+◌, ◌<◌, true, false, eqb, ◌⊎◌, List, [], ◌∷◌, ◌++◌, length, get_or, set, is_some, Some, None, Option, sym, refl, ap, ◌∙◌, subst, inl, inr, ⊎_elim, add-one, arith}
 use Rattle.std.proofs.lemmas.Option.{none-some, same_Some}
-use Rattle.std.proofs.lemmas.List.{length-map, length-set, map_push, map-set, get_or_push, get_or_past, get_or_append_left, get_or-set_same, get_or-set_other}
+use Rattle.std.proofs.lemmas.List.{length-map, length-set, get_or_push, get_or_past, get_or_append_left, get_or-set_same, get_or-set_other}
 use Rattle.std.proofs.lemmas.Bool.{false≢true, eqb-true, eqb-false, eq-eqb, ne_eqb, cases_eq, cases_lt, cases_order}
 use Rattle.order.specs.Events.{birth, make, target, death, post, await}
 use Rattle.order.specs.Runs.{Call, tell, stamp}
@@ -9,20 +9,20 @@ use Rattle.makes.specs.declared.places.Kind.{Kind}
 use Rattle.makes.specs.declared.places.Kind.TheVariants.{Session, Make, Target, Step}
 use Rattle.makes.specs.declared.places.Place.{Place}
 use Rattle.makes.specs.Machine.{Build, born_at, with_step, turned_make, declared, died, counted}
-use Rattle.makes.specs.Places.{make as a_make, step, sort_of, is_make, start_of, end_of, kind_begun, kind_declared, with_kind, no_place, place_at, kind_at, Shape, shape, shapes, shape_at, lives, starts, ends, stand}
+use Rattle.makes.specs.Places.{make as a_make, step, sort_of, is_make, start_of, end_of, kind_begun, kind_at, Shape, shape, shapes, shape_at, lives, starts, ends, stand}
 use Rattle.makes.specs.Runs.{make_in, Peopled, own, Begun, begun_now, begun_before, Starts, step_born, first_step, started_before, Ended, last_death, ended_before}
 use Rattle.makes.specs.Sound.{lasting, Sound}
 use Rattle.makes.specs.Entries.{more_starts, more_ends}
-use Rattle.makes.specs.Deaths.{died_starts}
+use Rattle.makes.specs.Columns.{new_step, ready_starts, ready_ends, made_starts, made_ends, grown_starts, grown_ends}
+use Rattle.makes.specs.Deaths.{died_shapes, died_starts}
 use Rattle.makes.specs.Later.{Later, some_of}
 use Rattle.makes.proofs.RunsEvents.{Parent}
 use Rattle.makes.proofs.RunsPeopled.{peopled_to, peopled_from, peopled_within}
-use Rattle.makes.proofs.RunsPlaces.{Follows, more_size, new_shape, size, parent_make, parent_within, new_step, new_make, new_target, step_shapes}
+use Rattle.makes.proofs.RunsPlaces.{Follows, same_size, more_size, new_shape, size, parent_make, parent_within, step_shapes}
 use Rattle.makes.specs.Shapes.{shape_is, make_shape, step_make}
 use Rattle.makes.specs.Slots.{default_more}
-use Rattle.makes.specs.Sorts.{begun_end, begun_start, begun_some, declared_start, declared_end}
+use Rattle.makes.specs.Sorts.{begun_start, begun_some}
 use Rattle.makes.specs.Views.{start_is, end_is}
-use Rattle.makes.specs.Walks.{map_set_same}
 
 -- the starts and ends in the state, and what the calls tell
 pub record Timed (calls : List Call) (s : Build) : Type 0 where
@@ -125,21 +125,14 @@ module _ {calls : List Call} (s : Build) (timed : Timed calls s) where
   pub make_timed : (p i : ℕ) → Later s (turned_make s i) → Timed (tell (make p) ∷ calls) (turned_make s i)
   make_timed p i later =
       quiet (tell (make p)) s (turned_make s i) timed later tt
-      (λ y. ap (λ zs. get_or zs y None) (map_push (λ (z : Place). start_of z.kind) s.places (new_make s i)) ∙ default_more (starts s.places) None y)
-      (λ y. ap (λ zs. get_or zs y None) (map_push (λ (z : Place). end_of z.kind) s.places (new_make s i)) ∙ default_more (ends s.places) None y)
+      (λ y. ap (λ zs. get_or zs y None) (made_starts s i) ∙ default_more (starts s.places) None y)
+      (λ y. ap (λ zs. get_or zs y None) (made_ends s i) ∙ default_more (ends s.places) None y)
 
   pub target_timed : (p h : ℕ) (ks : List ℕ) → Later s (declared s h ks) → Timed (tell (target p ks) ∷ calls) (declared s h ks)
   target_timed p h ks later =
-      let grown : Place = with_kind (place_at s.places h) (kind_declared (kind_at s.places h)) in
       quiet (tell (target p ks)) s (declared s h ks) timed later tt
-      (λ y.
-      ap (λ zs. get_or zs y None) (map_push (λ (z : Place). start_of z.kind) (set s.places h grown) (new_target s h))
-      ∙ default_more (starts (set s.places h grown)) None y
-      ∙ ap (λ zs. get_or zs y None) (map_set_same (λ (z : Place). start_of z.kind) s.places h grown no_place (declared_start (kind_at s.places h))))
-      (λ y.
-      ap (λ zs. get_or zs y None) (map_push (λ (z : Place). end_of z.kind) (set s.places h grown) (new_target s h))
-      ∙ default_more (ends (set s.places h grown)) None y
-      ∙ ap (λ zs. get_or zs y None) (map_set_same (λ (z : Place). end_of z.kind) s.places h grown no_place (declared_end (kind_at s.places h))))
+      (λ y. ap (λ zs. get_or zs y None) (grown_starts s h ks) ∙ default_more (starts s.places) None y)
+      (λ y. ap (λ zs. get_or zs y None) (grown_ends s h ks) ∙ default_more (ends s.places) None y)
 
   pub stamp_timed : (p : ℕ) → Later s (counted s) → Timed (stamp p ∷ calls) (counted s)
   stamp_timed p later = quiet (stamp p) s (counted s) timed later tt (λ y. refl) (λ y. refl)
@@ -147,9 +140,6 @@ module _ {calls : List Call} (s : Build) (timed : Timed calls s) where
 -- A death: what the last process leaves ends.
 module _ {calls : List Call} (s : Build) (f : Follows calls s) (sound : Sound s) (timed : Timed calls s) (p i : ℕ) (on : Follows (tell (death p) ∷ calls) (died s i)) (sound-on : Sound (died s i))
     (later : Later s (died s i)) where
-  same_size : length (died s i).places ≡ length s.places
-  same_size = sym (size on sound-on) ∙ size f sound
-
   -- ended exactly if nobody peoples it
   peopled_open : (x : ℕ) → x < length s.places → lasting (shape_at (shapes s.places) x).sort ≡ true → Peopled calls x → get_or (ends s.places) x None ≡ None
   peopled_open x w l on-x =
@@ -174,7 +164,7 @@ module _ {calls : List Call} (s : Build) (f : Follows calls s) (sound : Sound s)
       last_of x n w was is =
           let z = length-map s.places shape in
           let z' = length-map (died s i).places shape in
-          let n' = same_size in
+          let n' = same_size s (died s i) (died_shapes s i) in
           let lasts = ends_last (died s i).places x n is in
           let lasted = sym (ap (λ (y : Shape). lasting y.sort) (later.shape x w)) ∙ lasts in
           let busy = eqb-false _ 0 (sym (sound.times.over x (omega arith) lasted) ∙ ap is_some was) in
@@ -184,7 +174,7 @@ module _ {calls : List Call} (s : Build) (f : Follows calls s) (sound : Sound s)
       ends_to_on : (x n : ℕ) → get_or (ends (died s i).places) x None ≡ Some n → Ended x (tell (death p) ∷ calls) n
       ends_to_on x n e =
           let lt = end_within (died s i) x n e in
-          let n' = same_size in
+          let n' = same_size s (died s i) (died_shapes s i) in
           let w : x < length s.places = omega arith in
           ⊎_elim
           (λ same. ended_before (timed.ends_to x n (sym same ∙ e)))
@@ -194,8 +184,8 @@ module _ {calls : List Call} (s : Build) (f : Follows calls s) (sound : Sound s)
           (later.ends x w)
 
       within_on : (x n : ℕ) → Ended x (tell (death p) ∷ calls) n → x < length (died s i).places
-      within_on x n (last_death some gone) = let w = peopled_within f sound x some in let n' = same_size in omega arith
-      within_on x n (ended_before e) = let w = timed.ends_within x n e in let n' = same_size in omega arith
+      within_on x n (last_death some gone) = let w = peopled_within f sound x some in let n' = same_size s (died s i) (died_shapes s i) in omega arith
+      within_on x n (ended_before e) = let w = timed.ends_within x n e in let n' = same_size s (died s i) (died_shapes s i) in omega arith
 
       ends_from_on : (x n : ℕ) → lasting (shape_at (shapes (died s i).places) x).sort ≡ true → Ended x (tell (death p) ∷ calls) n → get_or (ends (died s i).places) x None ≡ Some n
       ends_from_on x n l (ended_before e) =
@@ -204,7 +194,7 @@ module _ {calls : List Call} (s : Build) (f : Follows calls s) (sound : Sound s)
           ⊎_elim (λ same. same ∙ was) (λ new. absurd (none-some _ (sym new.0 ∙ was))) (later.ends x w)
       ends_from_on x n l (last_death some gone) =
           let w = peopled_within f sound x some in
-          let n' = same_size in
+          let n' = same_size s (died s i) (died_shapes s i) in
           let z' = length-map (died s i).places shape in
           let was = peopled_open x w (sym (ap (λ (y : Shape). lasting y.sort) (later.shape x w)) ∙ l) some in
           let empty : get_or (lives (died s i).places) x 0 ≡ 0 =
@@ -221,9 +211,6 @@ module _ {calls : List Call} (s : Build) (f : Follows calls s) (sound : Sound s)
   abbrev stepped : Build
   stepped = born_at s p (with_step s h t) (length s.places)
 
-  abbrev begun_make_place : Place
-  begun_make_place = with_kind (place_at s.places h) (kind_begun (s.number + 1) (kind_at s.places h))
-
   -- the make's start after the birth
   abbrev start_on : Option ℕ
   start_on = start_of (kind_begun (s.number + 1) (kind_at s.places h))
@@ -232,16 +219,10 @@ module _ {calls : List Call} (s : Build) (f : Follows calls s) (sound : Sound s)
   h_is = parent_make f sound parent makes
 
   step_ends : (x : ℕ) → get_or (ends stepped.places) x None ≡ get_or (ends s.places) x None
-  step_ends x =
-      ap (λ zs. get_or zs x None) (more_ends (with_step s h t) (length s.places) ∙ map_push (λ (z : Place). end_of z.kind) (set s.places h begun_make_place) (new_step s h t))
-      ∙ default_more (ends (set s.places h begun_make_place)) None x
-      ∙ ap (λ zs. get_or zs x None) (map_set_same (λ (z : Place). end_of z.kind) s.places h begun_make_place no_place (begun_end (s.number + 1) (kind_at s.places h)))
+  step_ends x = ap (λ zs. get_or zs x None) (more_ends (with_step s h t) (length s.places) ∙ ready_ends s h t) ∙ default_more (ends s.places) None x
 
   step_starts : starts stepped.places ≡ set (starts s.places) h start_on ++ Some (s.number + 1) ∷ []
-  step_starts =
-      more_starts (with_step s h t) (length s.places)
-      ∙ map_push (λ (z : Place). start_of z.kind) (set s.places h begun_make_place) (new_step s h t)
-      ∙ ap (λ zs. zs ++ Some (s.number + 1) ∷ []) (map-set (λ (z : Place). start_of z.kind) s.places h begun_make_place)
+  step_starts = more_starts (with_step s h t) (length s.places) ∙ ready_starts s h t
 
   long : length (set (starts s.places) h start_on) ≡ length s.places
   long = length-set (starts s.places) h start_on ∙ length-map s.places (λ (z : Place). start_of z.kind)

@@ -21,6 +21,7 @@ pub mod Later
 pub mod Lawful
 pub mod Times
 pub mod Entries
+pub mod Columns
 pub mod Steps
 pub mod Turns
 pub mod Joins
