@@ -19,7 +19,7 @@ use Rattle.makes.specs.Deaths.{died_shapes, died_counts}
 use Rattle.makes.specs.Later.{Later}
 use Rattle.makes.specs.Lodgers.{birth_cases, set_cases}
 use Rattle.makes.proofs.RunsEvents.{Parent, parent_home_is}
-use Rattle.makes.proofs.RunsPlaces.{step_shapes, step_counts, make_counts, target_count_own, target_count_other, Standing, Follows, stand_shape, own_shape, standing_on, stands_no_make, size, found_stands, housed, found_make, parent_make, parent_within, parent_place, target_told, more_sorts, more_parents, new_shape, newest_stand, newest_own, counted_more, slotted_on, declared_on}
+use Rattle.makes.proofs.RunsPlaces.{step_shapes, step_counts, make_counts, target_count_own, target_count_other, Standing, Follows, stand_shape, own_shape, standing_on, stands_no_make, size, found_stands, housed, housed_at, found_make, parent_make, parent_within, parent_place, target_told, more_sorts, more_parents, new_shape, newest_stand, newest_own, counted_more, slotted_on, declared_on}
 use Rattle.makes.specs.Shapes.{shape_is, in_shapes, count_is, make_shape}
 
 -- a birth leaves the other processes where they are
@@ -211,18 +211,12 @@ module _ {calls : List Call} (s : Build) (f : Follows calls s) (sound : Sound s)
   abbrev grown_state : Build
   grown_state = declared s h ks
 
-  h_within : h < length s.places
-  h_within = let a = housed f sound own in omega arith
-
-  pub declarer : make_in calls p ≡ Some h
-  declarer = found_make f sound own at makes
-
   -- the targets of the make h, and of the others
   own_targets : targets_in (tell (target p ks) ∷ calls) h ≡ targets_in calls h ++ next_place calls ∷ []
-  own_targets = cond-true _ _ _ (ap (λ o. is_place o h) declarer ∙ eq-eqb h h refl)
+  own_targets = cond-true _ _ _ (ap (λ o. is_place o h) (found_make f sound own at makes) ∙ eq-eqb h h refl)
 
   other_targets : (m : ℕ) → (m ≡ h → ⊥) → targets_in (tell (target p ks) ∷ calls) m ≡ targets_in calls m
-  other_targets m ne = cond-false _ _ _ (ap (λ o. is_place o m) declarer ∙ ne_eqb h m (λ e. ne (sym e)))
+  other_targets m ne = cond-false _ _ _ (ap (λ o. is_place o m) (found_make f sound own at makes) ∙ ne_eqb h m (λ e. ne (sym e)))
 
   -- where the new target is put, and where the others are
   abbrev slot : ℕ
@@ -235,7 +229,7 @@ module _ {calls : List Call} (s : Build) (f : Follows calls s) (sound : Sound s)
 
   slot_within : slot < length s.slots
   slot_within =
-      let o = sound.slots.ordinal h (in_shapes s.places h_within) (make_shape s.places h makes) in
+      let o = sound.slots.ordinal h (in_shapes s.places (housed_at f sound own at)) (make_shape s.places h makes) in
       let c = sound.slots.few h in
       let mk = sound.room.makes in
       let len = sound.room.slots in
@@ -252,7 +246,7 @@ module _ {calls : List Call} (s : Build) (f : Follows calls s) (sound : Sound s)
       let same = e ∙ slot_is in
       let o = sym (div-mul-add (shape_at (shapes s.places) m).ordinal s.room.targets k (omega arith)) ∙ ap (λ n. n / s.room.targets) same
       ∙ div-mul-add (shape_at (shapes s.places) h).ordinal s.room.targets (get_or (counts s.places) h 0) (omega arith) in
-      let m-is = sound.slots.apart m h (in_shapes s.places w) (in_shapes s.places h_within) makes-m (make_shape s.places h makes) o in
+      let m-is = sound.slots.apart m h (in_shapes s.places w) (in_shapes s.places (housed_at f sound own at)) makes-m (make_shape s.places h makes) o in
       let c = ap (λ x. get_or (counts s.places) x 0) m-is in
       let d = ap (λ n. n * s.room.targets) o in
       omega (arith, same, d, c, low)
@@ -276,13 +270,13 @@ module _ {calls : List Call} (s : Build) (f : Follows calls s) (sound : Sound s)
         let c = f.declared h in
         ⊎_elim
         (λ last.
-        slotted_as h k h_within
+        slotted_as h k (housed_at f sound own at)
         (ap (λ n. get_or grown_state.slots n 0) (ap (λ n. (shape_at (shapes s.places) h).ordinal * s.room.targets + n) last ∙ sym slot_is)
         ∙ get_or-set_same s.slots slot (length s.places) 0 slot_within ∙ sym (size f sound)
         ∙ sym (ap (λ xs. get_or xs k 0) own_targets ∙ get_or_push (targets_in calls h) (next_place calls) 0 k (c ∙ sym last))))
         (λ before.
-        slotted_as h k h_within
-        (kept_slot h k h_within (make_shape s.places h makes) (omega arith) ∙ sym (ap (λ xs. get_or xs k 0) own_targets ∙ get_or_append_left (targets_in calls h) (next_place calls ∷ []) 0 k (omega arith))))
+        slotted_as h k (housed_at f sound own at)
+        (kept_slot h k (housed_at f sound own at) (make_shape s.places h makes) (omega arith) ∙ sym (ap (λ xs. get_or xs k 0) own_targets ∙ get_or_append_left (targets_in calls h) (next_place calls ∷ []) 0 k (omega arith))))
         (cases_eq k (get_or (counts s.places) h 0))
 
     other_slotted : (m k : ℕ) → (m ≡ h → ⊥) → (shape_at (shapes grown_state.places) m).sort ≡ a_make → k < get_or (counts s.places) m 0 → Slotted m k
@@ -296,12 +290,12 @@ module _ {calls : List Call} (s : Build) (f : Follows calls s) (sound : Sound s)
     target_follows =
         let y = new_target s h in
         let on_shapes = grown_shapes s h ks in
-        let up-own = target_count_own s h ks h_within makes in
-        let up-other = target_count_other s h ks h_within makes in
+        let up-own = target_count_own s h ks (housed_at f sound own at) makes in
+        let up-other = target_count_other s h ks (housed_at f sound own at) makes in
         record {
           counted = counted_more s grown_state f later;
           sorts = more_sorts s grown_state f later y on_shapes;
-          tree = more_parents s grown_state f later y on_shapes _ (ap the (sym declarer));
+          tree = more_parents s grown_state f later y on_shapes _ (ap the (sym (found_make f sound own at makes)));
           living = λ j w l.
               let w' : Found s.births (birth_at s.births j).process j = record { within = w; live = l; process = refl } in
               standing_on {s = s} {t = grown_state} later (housed f sound w') refl refl (f.living j w l);

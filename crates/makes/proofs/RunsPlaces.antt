@@ -30,7 +30,7 @@ module _ (s t : Build) (y : Place) (e : shapes t.places ≡ shapes s.places ++ s
 
   pub new_shape : shape_at (shapes t.places) (length s.places) ≡ shape y
   new_shape =
-      ap (λ ts. shape_at ts (length s.places)) e ∙ ap (shape_at (shapes s.places ++ shape y ∷ [])) (sym (length-map s.places shape)) ∙ shape_new (shapes s.places) (shape y)
+      ap (λ ts. shape_at ts (length s.places)) e ∙ shape_new (shapes s.places) (shape y) (sym (length-map s.places shape))
 
 -- The shapes after the birth of a step.
 module _ (s : Build) where
@@ -119,6 +119,9 @@ module _ {calls : List Call} {s : Build} (f : Follows calls s) (sound : Sound s)
 
   pub housed : {p i : ℕ} → Found s.births p i → (birth_at s.births i).at < length s.places
   housed {p} {i} w = let a = sound.births.housed i w.within in let b = length-map s.places shape in omega arith
+
+  pub housed_at : {p i h : ℕ} → Found s.births p i → (birth_at s.births i).at ≡ h → h < length s.places
+  housed_at w at = let a = housed w in omega arith
 
   pub found_make : {p i h : ℕ} → Found s.births p i → (birth_at s.births i).at ≡ h → is_make (kind_at s.places h) ≡ true → make_in calls p ≡ Some h
   found_make {p} {i} {h} w at makes = (found_stands w).own ∙ ap (own_make s.places) at ∙ cond-true (is_make (kind_at s.places h)) (Some h) None makes

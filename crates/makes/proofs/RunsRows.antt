@@ -1,5 +1,5 @@
 -- Over a run, the rows of prerequisites are those that the calls tell.
-use Rattle.std.proofs.Common.{◌≡◌, ℕ, zero, suc, ◌+◌, ◌-◌, ◌*◌, ◌<◌, ◌≤◌, true, ◌||◌, eqb, ◌⊎◌, List, [], ◌∷◌, ◌++◌, map, length, get_or, Some, sym, refl, ap, ◌∙◌, subst, inl, inr, ⊎_elim, arith}
+use Rattle.std.proofs.Common.{◌≡◌, ℕ, zero, suc, ◌+◌, ◌-◌, ◌*◌, ◌<◌, ◌≤◌, true, ◌||◌, eqb, ◌⊎◌, List, [], ◌∷◌, ◌++◌, map, length, get_or, sym, refl, ap, ◌∙◌, subst, inl, inr, ⊎_elim, arith}
 use Rattle.std.proofs.lemmas.Option.{same_Some}
 use Rattle.std.proofs.lemmas.List.{length-map, length_push}
 use Rattle.std.proofs.lemmas.Bool.{false≢true, eqb-true, eq-eqb, or_cases, or_left, or_right, cases_order}
@@ -10,7 +10,7 @@ use Rattle.makes.specs.declared.places.Place.{Place}
 use Rattle.makes.specs.Machine.{Build, born_at, with_step, turned_make, declared, died, counted, slots_from, target_at, rows_of}
 use Rattle.makes.specs.Places.{target as a_target, is_make, targets_of, kind_at, Shape, shape, shapes, shape_at, stand, birth_at, all_declared, row_in}
 use Rattle.makes.specs.Rows.{needs, joined_row}
-use Rattle.makes.specs.Runs.{make_in, target_in, Names, named_now, named_before, Prerequisite, directly, through}
+use Rattle.makes.specs.Runs.{target_in, Names, named_now, named_before, Prerequisite, directly, through}
 use Rattle.makes.specs.Sound.{Sound, TargetOf}
 use Rattle.makes.specs.Entries.{more_shapes}
 use Rattle.makes.specs.Found.{Found}
@@ -19,8 +19,7 @@ use Rattle.makes.specs.Columns.{new_step, new_make, new_target, made_shapes, gro
 use Rattle.makes.specs.Deaths.{died_shapes}
 use Rattle.makes.specs.Later.{Later}
 use Rattle.makes.proofs.Asked.{declared_at}
-use Rattle.makes.proofs.RunsFollows.{declarer}
-use Rattle.makes.proofs.RunsPlaces.{Follows, same_size, more_size, new_shape, size, housed, target_told, step_shapes}
+use Rattle.makes.proofs.RunsPlaces.{Follows, same_size, more_size, new_shape, size, housed_at, found_make, target_told, step_shapes}
 use Rattle.makes.specs.Shapes.{shape_is, count_is, make_shape, make_target, step_target}
 
 -- x is the place of a target
@@ -186,19 +185,13 @@ module _ {calls : List Call} (s : Build) (f : Follows calls s) (sound : Sound s)
   abbrev fresh : ℕ
   fresh = length s.places
 
-  h_within : h < length s.places
-  h_within = let a = housed f sound own in omega arith
-
-  maker : make_in calls p ≡ Some h
-  maker = declarer s f sound p i h ks own at makes room
-
   -- the j-th prerequisite: its place and its row
   abbrev row_named : ℕ → ℕ
   row_named k = row_in s.places s.slots (slots_from s h) k
 
   module _ (j : ℕ) (low : j < length ks) where
     place_named : target_at s h (get_or ks j 0) ≡ target_in calls h (get_or ks j 0)
-    place_named = let d = declared_at (targets_of (kind_at s.places h)) ks all j low in target_told f sound h (get_or ks j 0) h_within makes d.0 d.1
+    place_named = let d = declared_at (targets_of (kind_at s.places h)) ks all j low in target_told f sound h (get_or ks j 0) (housed_at f sound own at) makes d.0 d.1
 
     target_named : TargetPlace s (target_at s h (get_or ks j 0))
     target_named =
@@ -216,7 +209,7 @@ module _ {calls : List Call} (s : Build) (f : Follows calls s) (sound : Sound s)
     row_is_named = ap (λ (y : Shape). y.row) (shape_is s.places (target_at s h (get_or ks j 0)))
 
     names_it : Names fresh (target_at s h (get_or ks j 0)) (tell (target p ks) ∷ calls)
-    names_it = named_now maker low (sym (size f sound)) place_named
+    names_it = named_now (found_make f sound own at makes) low (sym (size f sound)) place_named
 
   rows_few : AllByRecursion (λ u. u < 512) (rows_of s h ks)
   rows_few = all_rows row_named 512 ks (λ j low. let a = row_few s sound _ (target_named j low) in let e = row_is_named j low in omega arith)
@@ -272,7 +265,7 @@ module _ {calls : List Call} (s : Build) (f : Follows calls s) (sound : Sound s)
 
   named_on : (x y : ℕ) → Names x y (tell (target p ks) ∷ calls) → Needing after x y
   named_on x y (named_now {j = j} e low xe ye) =
-      let m-is = same_Some _ _ (sym e ∙ maker) in
+      let m-is = same_Some _ _ (sym e ∙ found_make f sound own at makes) in
       let yes = ye ∙ ap (λ m. target_in calls m (get_or ks j 0)) m-is ∙ sym (place_named j low) in
       subst (λ z. Needing after z y) (sym (xe ∙ size f sound)) (subst (Needing after fresh) (sym yes) (needing_named j low))
   named_on x y (named_before n) =

@@ -114,7 +114,7 @@ module _ (ts : List Shape) (t : Shape) (bs : List (Birth ℕ)) (ls : List ℕ) (
         record {
           housed = set_cases bs i b in_table (λ j y. y.at < length (ts ++ t ∷ [])) (λ j h ne. housed_old j h) (omega arith);
           homely = set_cases bs i b in_table (λ j y. target_sort (shape_at (ts ++ t ∷ []) y.at).sort ≡ false) (λ j h ne. homely_old j h)
-              (ap (λ (s : Shape). target_sort s.sort) (shape_new ts t) ∙ no_target);
+              (ap (λ (s : Shape). target_sort s.sort) (shape_new ts t refl) ∙ no_target);
           only = λ j k hj hk lj lk same.
               let m = length-set bs i b in
               let seen : (x : ℕ) → x < length (slice_set bs i b) → ((birth_at (slice_set bs i b) x).live ≡ (birth_at bs x).live) × ((birth_at (slice_set bs i b) x).process ≡ (birth_at bs x).process) =

@@ -82,8 +82,8 @@ module _ (ts : List Shape) (t : Shape) where
   pub new_or_old : (x : ℕ) → x < length (ts ++ t ∷ []) → (x ≡ length ts) ⊎ (x < length ts)
   new_or_old x h = let n = length_push ts t in ⊎_elim inl (⊎_elim inr (λ gt. absurd (omega arith))) (cases_order x (length ts))
 
-  pub shape_new : shape_at (ts ++ t ∷ []) (length ts) ≡ t
-  shape_new = get_or_push ts t (shape no_place) (length ts) refl
+  pub shape_new : {x : ℕ} → x ≡ length ts → shape_at (ts ++ t ∷ []) x ≡ t
+  shape_new {x} e = get_or_push ts t (shape no_place) x (sym e)
 
   parents_more : parents_of (ts ++ t ∷ []) ≡ parents_of ts ++ t.parent ∷ []
   parents_more = map_push (λ (y : Shape). y.parent) ts t
@@ -136,7 +136,7 @@ module _ (ts : List Shape) (t : Shape) (sound : SoundTree ts) (within : t.parent
 
   fits_new : fits_below (shape_at (ts ++ t ∷ []) (length ts)).sort (shape_at (ts ++ t ∷ []) (up (parents_of (ts ++ t ∷ [])) (length ts))).sort ≡ true
   fits_new =
-      (λ i. fits_below (shape_new ts t i).sort (shape_at (ts ++ t ∷ []) (up_new ts t i)).sort)
+      (λ i. fits_below (shape_new ts t refl i).sort (shape_at (ts ++ t ∷ []) (up_new ts t i)).sort)
       ∙ (λ i. fits_below t.sort (shape_old ts t t.parent within i).sort)
       ∙ fits
 
@@ -177,7 +177,7 @@ module _ (ts : List Shape) (t : Shape) (sound : SoundTree ts) (within : t.parent
             let above = sound.levelled t.parent within in
             let size : levels us (length ts) ≡ levels (parents_of ts) t.parent + 1 = omega arith in
             let fit = levels_fit t.sort (shape_at ts t.parent).sort (levels (parents_of ts) t.parent) (shape_at ts t.parent).depth fits above in
-            (λ i. size i + levels_left (shape_new ts t i).sort) ∙ fit ∙ ap (λ d. 3 * d) (sym deeper) ∙ sym (ap (λ (s : Shape). 3 * s.depth) (shape_new ts t)));
+            (λ i. size i + levels_left (shape_new ts t refl i).sort) ∙ fit ∙ ap (λ d. 3 * d) (sym deeper) ∙ sym (ap (λ (s : Shape). 3 * s.depth) (shape_new ts t refl)));
         deep = last_cases (λ x. makes_above (ts ++ t ∷ []) x ≡ (shape_at (ts ++ t ∷ []) x).depth)
             (λ x h.
             ap (count_by (λ y. make_sort (shape_at (ts ++ t ∷ []) y).sort)) (line_old ts t sound.earlier within x h)
@@ -185,12 +185,12 @@ module _ (ts : List Shape) (t : Shape) (sound : SoundTree ts) (within : t.parent
             (let up-makes = makes_old t.parent within ∙ sound.deep t.parent within in
             let whole = ap (count_by (λ y. make_sort (shape_at (ts ++ t ∷ []) y).sort)) (line_new ts t sound.earlier within)
             ∙ count_by_cons (λ y. make_sort (shape_at (ts ++ t ∷ []) y).sort) (length ts) (line (parents_of ts) t.parent)
-            ∙ (λ i. cond (make_sort (shape_new ts t i).sort) 1 0 + up-makes i) in
-            let new = ap (λ (s : Shape). s.depth) (shape_new ts t) in
+            ∙ (λ i. cond (make_sort (shape_new ts t refl i).sort) 1 0 + up-makes i) in
+            let new = ap (λ (s : Shape). s.depth) (shape_new ts t refl) in
             omega (arith, whole, new, deeper));
         shallow = last_cases (λ x. (shape_at (ts ++ t ∷ []) x).depth ≤ 16)
             (λ x h. subst (λ (s : Shape). s.depth ≤ 16) (sym (shape_old ts t x h)) (sound.shallow x h))
-            (subst (λ (s : Shape). s.depth ≤ 16) (sym (shape_new ts t)) few);
+            (subst (λ (s : Shape). s.depth ≤ 16) (sym (shape_new ts t refl)) few);
       }
 
 -- so no place is more than 48 levels down

@@ -26,20 +26,17 @@ target_kept ts t {m} {y} h = record {
 module _ (ts : List Shape) (t : Shape) (cs : List ℕ) (makes targets width : ℕ) (slots : List ℕ) (sound : SoundSlots ts cs makes targets width slots) (sized : length cs ≡ length ts)
     (makes-after targets-after : ℕ) (makes-grow : makes ≤ makes-after) (targets-grow : targets ≤ targets-after)
     (row_new : t.sort ≡ target → t.row < targets-after) (ordinal-new : t.sort ≡ make → (t.ordinal ≡ makes) × (makes < makes-after)) where
-  at_new : (x : ℕ) → x ≡ length ts → shape_at (ts ++ t ∷ []) x ≡ t
-  at_new x e = ap (shape_at (ts ++ t ∷ [])) e ∙ shape_new ts t
-
   rows_on : (x : ℕ) → x < length (ts ++ t ∷ []) → (shape_at (ts ++ t ∷ []) x).sort ≡ target → (shape_at (ts ++ t ∷ []) x).row < targets-after
   rows_on x h e =
       ⊎_elim
-      (λ is. let a = at_new x is in let r = row_new (sym (ap (λ (s : Shape). s.sort) a) ∙ e) in let q = ap (λ (s : Shape). s.row) a in omega arith)
+      (λ is. let a = shape_new ts t is in let r = row_new (sym (ap (λ (s : Shape). s.sort) a) ∙ e) in let q = ap (λ (s : Shape). s.row) a in omega arith)
       (λ lt. let a = shape_old ts t x lt in let r = sound.row x lt (sym (ap (λ (s : Shape). s.sort) a) ∙ e) in let q = ap (λ (s : Shape). s.row) a in omega arith)
       (new_or_old ts t x h)
 
   ordinals_on : (x : ℕ) → x < length (ts ++ t ∷ []) → (shape_at (ts ++ t ∷ []) x).sort ≡ make → (shape_at (ts ++ t ∷ []) x).ordinal < makes-after
   ordinals_on x h e =
       ⊎_elim
-      (λ is. let a = at_new x is in let r = ordinal-new (sym (ap (λ (s : Shape). s.sort) a) ∙ e) in let q = ap (λ (s : Shape). s.ordinal) a in omega arith)
+      (λ is. let a = shape_new ts t is in let r = ordinal-new (sym (ap (λ (s : Shape). s.sort) a) ∙ e) in let q = ap (λ (s : Shape). s.ordinal) a in omega arith)
       (λ lt. let a = shape_old ts t x lt in let r = sound.ordinal x lt (sym (ap (λ (s : Shape). s.sort) a) ∙ e) in let q = ap (λ (s : Shape). s.ordinal) a in omega arith)
       (new_or_old ts t x h)
 
@@ -47,7 +44,7 @@ module _ (ts : List Shape) (t : Shape) (cs : List ℕ) (makes targets width : �
   new_apart : (x y : ℕ) → x ≡ length ts → y < length ts → (shape_at (ts ++ t ∷ []) x).sort ≡ make → (shape_at (ts ++ t ∷ []) y).sort ≡ make
       → (shape_at (ts ++ t ∷ []) x).ordinal ≢ (shape_at (ts ++ t ∷ []) y).ordinal
   new_apart x y is lt ex ey same =
-      let a = at_new x is in
+      let a = shape_new ts t is in
       let b = shape_old ts t y lt in
       let r = ordinal-new (sym (ap (λ (s : Shape). s.sort) a) ∙ ex) in
       let q = ap (λ (s : Shape). s.ordinal) a in

@@ -70,7 +70,7 @@ module _ (s : Build) (sound : Sound s) (more : s.number + 1 ≤ last_number) (p 
   vs = parents_of (shapes s.places ++ shape (new_step s m t) ∷ [])
 
   new_within : length s.places < length (with_step s m t)
-  new_within = let n = (ready_size s m t) in omega arith
+  new_within = let n = ready_size s m t in omega arith
 
   ready_tree : SoundTree (shapes (with_step s m t))
   ready_tree = subst SoundTree (sym (ready_shapes s m t)) tree_on
@@ -144,7 +144,7 @@ module _ (s : Build) (sound : Sound s) (more : s.number + 1 ≤ last_number) (p 
       births_born (shapes s.places ++ shape (new_step s m t) ∷ []) s.births (lives s.places ++ 0 ∷ []) (lives after)
       (births_place (shapes s.places) (shape (new_step s m t)) s.births (lives s.places) sound.tree.earlier below.within sound.births sl)
       p (length s.places) (omega arith)
-      (ap (λ (y : Shape). target_sort y.sort) (ap (shape_at (shapes s.places ++ shape (new_step s m t) ∷ [])) (sym (length-map s.places shape)) ∙ shape_new (shapes s.places) (shape (new_step s m t))))
+      (ap (λ (y : Shape). target_sort y.sort) (shape_new (shapes s.places) (shape (new_step s m t)) (sym (length-map s.places shape))))
       nobody (λ y w. counted_at y)
 
   slots_on : SoundSlots (shapes s.places ++ shape (new_step s m t) ∷ []) (counts s.places ++ 0 ∷ []) s.makes (length s.rows) s.room.targets s.slots
@@ -199,9 +199,9 @@ module _ (s : Build) (sound : Sound s) (more : s.number + 1 ≤ last_number) (p 
       record {
         number = refl;
         longer = omega arith;
-        shape = λ y w. ap (λ ts. shape_at ts y) (more_shapes (with_step s m t) x ∙ (ready_shapes s m t)) ∙ shape_old (shapes s.places) (shape (new_step s m t)) y (omega arith);
+        shape = λ y w. ap (λ ts. shape_at ts y) (more_shapes (with_step s m t) x ∙ ready_shapes s m t) ∙ shape_old (shapes s.places) (shape (new_step s m t)) y (omega arith);
         starts = λ y k w e.
-            ap (λ ss. get_or ss y None) (more_starts (with_step s m t) x ∙ (ready_starts s m t))
+            ap (λ ss. get_or ss y None) (more_starts (with_step s m t) x ∙ ready_starts s m t)
             ∙ get_or_append_left (slice_set (starts s.places) m (start_of (kind_begun (s.number + 1) (kind_at s.places m)))) (Some (s.number + 1) ∷ []) None y (omega arith)
             ∙ ⊎_elim
             (λ is.
@@ -210,6 +210,6 @@ module _ (s : Build) (sound : Sound s) (more : s.number + 1 ≤ last_number) (p 
             ∙ ⊎_elim (λ same. same ∙ ap (λ q. get_or (starts s.places) q None) (sym is) ∙ e) (λ new. absurd (none-some _ (sym new.0 ∙ ap (λ q. get_or (starts s.places) q None) (sym is) ∙ e))) begun_is)
             (λ ne. get_or-set_other (starts s.places) m y (start_of (kind_begun (s.number + 1) (kind_at s.places m))) None ne ∙ e)
             (cases_eq y m);
-        ends = λ y w. inl (ap (λ es. get_or es y None) (more_ends (with_step s m t) x ∙ (ready_ends s m t)) ∙ get_or_append_left (ends s.places) (None ∷ []) None y (omega arith));
+        ends = λ y w. inl (ap (λ es. get_or es y None) (more_ends (with_step s m t) x ∙ ready_ends s m t) ∙ get_or_append_left (ends s.places) (None ∷ []) None y (omega arith));
         needs = λ r u w j. refl;
       }

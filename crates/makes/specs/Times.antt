@@ -48,7 +48,7 @@ still_open false o l some was = was
 module _ (n : ℕ) (ts : List Shape) (ls : List ℕ) (ss es : List (Option ℕ)) (sound : SoundTimes n ts ls ss es) (t : Shape) (l : ℕ) (tree : SoundTree ts)
     (sized-l : length ls ≡ length ts) (sized-s : length ss ≡ length ts) (sized-e : length es ≡ length ts) where
   new_sort : (x : ℕ) → x ≡ length ts → (shape_at (ts ++ t ∷ []) x).sort ≡ t.sort
-  new_sort x is = ap (λ (s : Shape). s.sort) (ap (shape_at (ts ++ t ∷ [])) is ∙ shape_new ts t)
+  new_sort x is = ap (λ (s : Shape). s.sort) (shape_new ts t is)
 
   old_sort : (x : ℕ) → x < length ts → (shape_at (ts ++ t ∷ []) x).sort ≡ (shape_at ts x).sort
   old_sort x lt = ap (λ (s : Shape). s.sort) (shape_old ts t x lt)

@@ -141,7 +141,7 @@ module _ (s : Build) (sound : Sound s) (more : s.number + 1 ≤ last_number) (m 
 
   own_target : TargetOf (shapes s.places ++ shape (new_target s m) ∷ []) m (length s.places)
   own_target =
-      let e = ap (shape_at (shapes s.places ++ shape (new_target s m) ∷ [])) (sym (length-map s.places shape)) ∙ shape_new (shapes s.places) (shape (new_target s m)) in
+      let e = shape_new (shapes s.places) (shape (new_target s m)) (sym (length-map s.places shape)) in
       record {
         within = let z = length-map s.places shape in let n = length_push (shapes s.places) (shape (new_target s m)) in omega arith;
         sort = ap (λ (y : Shape). y.sort) e;
@@ -158,7 +158,7 @@ module _ (s : Build) (sound : Sound s) (more : s.number + 1 ≤ last_number) (m 
       let f = sound.slots.few m in
       let c = count_same in
       slots_target (shapes s.places ++ shape (new_target s m) ∷ []) (counts s.places ++ 0 ∷ []) s.makes (length s.rows + 1) s.room.targets s.slots place_slots m (length s.places)
-      (omega arith) (omega arith) (ap (λ (y : Shape). y.sort) (shape_old (shapes s.places) (shape (new_target s m)) m (in_shapes s.places m_within)) ∙ (make_shape s.places m makes)) (omega arith) (omega arith) slot_within own_target
+      (omega arith) (omega arith) (ap (λ (y : Shape). y.sort) (shape_old (shapes s.places) (shape (new_target s m)) m (in_shapes s.places m_within)) ∙ make_shape s.places m makes) (omega arith) (omega arith) slot_within own_target
 
   -- the prerequisites are earlier targets
   row_below : (k : ℕ) → 1 ≤ k → k ≤ targets_of (kind_at s.places m) → row_in s.places s.slots (slots_from s m) k < length s.rows
