@@ -1,11 +1,11 @@
 -- Over a run, the state's tree, processes and targets are those that the calls tell.
-use Rattle.std.proofs.Common.{◌≡◌, ℕ, zero, suc, ◌+◌, ◌-◌, ◌*◌, ◌<◌, ◌≤◌, true, false, cond, eqb, List, [], ◌∷◌, ◌++◌, map, length, get_or, set, Some, None, Option, sym, refl, ap, ◌∙◌, subst, inl, inr, ⊎_elim, add-one, arith}
+use Rattle.std.proofs.Common.{◌≡◌, ℕ, suc, ◌+◌, ◌-◌, ◌*◌, ◌<◌, ◌≤◌, true, false, cond, eqb, List, [], ◌∷◌, ◌++◌, map, length, get_or, set, Some, None, Option, sym, refl, ap, ◌∙◌, subst, inl, inr, ⊎_elim, add-one, arith}
 use Rattle.std.proofs.lemmas.List.{length-map, length_push, map_push, get_or_past, get_or-set_same, get_or-set_other}
 use Rattle.std.proofs.lemmas.Bool.{false≢true, eq-eqb, ne_eqb, cond-true, cond-false, cases_lt}
 use Rattle.order.specs.Runs.{Call}
 use Rattle.makes.specs.declared.places.Place.{Place}
 use Rattle.makes.specs.Machine.{Build, lives_in, born_at, with_step, turned_make, declared, target_at}
-use Rattle.makes.specs.Places.{Sort, session, make as a_make, target as a_target, step, make_sort, stand_sort, is_make, targets_of, place_at, kind_at, Shape, shape, shapes, shape_at, parents_of, parents, counts, stand, birth_at}
+use Rattle.makes.specs.Places.{Sort, session, make as a_make, target as a_target, step, make_sort, stand_sort, is_make, targets_of, no_place, place_at, kind_at, Shape, shape, shapes, shape_at, parents_of, parents, counts, stand, birth_at}
 use Rattle.makes.specs.Runs.{sorts_in, sort_in, next_place, place_in, make_in, targets_in, target_in, parents_in}
 use Rattle.makes.specs.Sound.{Sound}
 use Rattle.makes.specs.Columns.{new_step, ready_shapes, ready_counts, made_counts, grown_counts}
@@ -14,6 +14,7 @@ use Rattle.makes.specs.Found.{Found}
 use Rattle.makes.specs.Later.{Later}
 use Rattle.makes.proofs.RunsEvents.{Parent}
 use Rattle.makes.specs.Shapes.{shape_is, count_is, shape_new, make_shape}
+use Rattle.makes.specs.Walks.{map_at}
 use Rattle.makes.specs.Slots.{default_more}
 
 -- the same shapes, as many places
@@ -100,19 +101,13 @@ stands_no_make a_make e = absurd (false≢true e)
 stands_no_make a_target e = absurd (false≢true e)
 stands_no_make step e = refl
 
--- the sort of a place, in the tree
-sort_of_shapes : (ts : List Shape) (x : ℕ) → get_or (map (λ (y : Shape). y.sort) ts) x session ≡ (shape_at ts x).sort
-sort_of_shapes [] x = refl
-sort_of_shapes (t ∷ ts) zero = refl
-sort_of_shapes (t ∷ ts) (suc x) = sort_of_shapes ts x
-
 -- What the state tells of the processes and places that an event names.
 module _ {calls : List Call} {s : Build} (f : Follows calls s) (sound : Sound s) where
   pub size : next_place calls ≡ length s.places
   size = ap length (sym f.sorts) ∙ length-map (shapes s.places) (λ (y : Shape). y.sort) ∙ length-map s.places shape
 
   pub sort_told : (x : ℕ) → sort_in calls x ≡ (shape_at (shapes s.places) x).sort
-  sort_told x = ap (λ ks. get_or ks x session) (sym f.sorts) ∙ sort_of_shapes (shapes s.places) x
+  sort_told x = ap (λ ks. get_or ks x session) (sym f.sorts) ∙ map_at (λ (y : Shape). y.sort) (shapes s.places) x (shape no_place)
 
   pub found_stands : {p i : ℕ} → Found s.births p i → Standing calls s.places p (birth_at s.births i).at
   found_stands {p} {i} w = subst (λ q. Standing calls s.places q (birth_at s.births i).at) w.process (f.living i w.within w.live)

@@ -11,12 +11,10 @@ use Rattle.makes.specs.Places.{Sort, session, make, target, step, make_sort, tar
 use Rattle.makes.specs.Sound.{fits_below, levels_left, makes_above, SoundTree}
 use Rattle.makes.specs.Tree.{up, Earlier, line_in, line, levels}
 use Rattle.makes.specs.TreeLemmas.{line_some, line_more, line_same}
-use Rattle.makes.specs.Walks.{map_set_same}
+use Rattle.makes.specs.Walks.{map_at, map_set_same}
 
 pub shape_is : (ps : List Place) (x : ℕ) → shape_at (shapes ps) x ≡ shape (place_at ps x)
-shape_is [] x = refl
-shape_is (p ∷ ps) zero = refl
-shape_is (p ∷ ps) (suc x) = shape_is ps x
+shape_is ps x = map_at shape ps x no_place
 
 -- what is in the table is in the tree, and each column of the table is as long as the tree
 pub in_shapes : (ps : List Place) {x : ℕ} → x < length ps → x < length (shapes ps)
@@ -26,9 +24,7 @@ pub sized : {Y : Type 0} (ps : List Place) (g : Place → Y) → length (map g p
 sized ps g = length-map ps g ∙ sym (length-map ps shape)
 
 pub count_is : (ps : List Place) (x : ℕ) → slice_index (counts ps) x ≡ targets_of (kind_at ps x)
-count_is [] x = refl
-count_is (p ∷ ps) zero = refl
-count_is (p ∷ ps) (suc x) = count_is ps x
+count_is ps x = map_at (λ (p : Place). targets_of p.kind) ps x no_place
 
 -- what each change keeps, all changes keep
 pub changed_same : {Y : Type 0} (g : Place → Y) (f : Place → Place) → ((p : Place) → g (f p) ≡ g p) → (ps : List Place) (xs : List ℕ) → map g (changed f ps xs) ≡ map g ps

@@ -1,5 +1,5 @@
 -- What is seen of the table of places, place by place, and after a walk.
-use Rattle.std.specs.Prelude.{◌≡◌, ℕ, zero, suc, ◌+◌, ◌<◌, Bool, true, false, cond, ◌||◌, List, [], ◌∷◌, length, None, ◌==◌, slice_index, slice_index_or, slice_set, refl}
+use Rattle.std.specs.Prelude.{◌≡◌, ℕ, zero, suc, ◌+◌, ◌<◌, Bool, true, false, cond, ◌||◌, List, [], length, None, ◌==◌, slice_index, slice_index_or, slice_set, refl}
 use Rattle.std.proofs.Common.{⊎_elim, sym, ap, ◌∙◌, arith}
 use Rattle.std.proofs.lemmas.List.{length-set, get_or-set_same, get_or-set_other}
 use Rattle.std.proofs.lemmas.Bool.{eqb-false, eq-eqb, ne_eqb, cases_eq, cases_Bool}
@@ -7,21 +7,16 @@ use Rattle.makes.specs.declared.places.Place.{Place}
 use Rattle.makes.specs.Places.{start_of, end_of, no_place, place_at, kind_at, lives, starts, ends, changed}
 use Rattle.makes.specs.Tree.{up, Earlier, line_in, line, among, holds}
 use Rattle.makes.specs.TreeLemmas.{holds_from_line, holds_le}
+use Rattle.makes.specs.Walks.{map_at}
 
 pub live_is : (ps : List Place) (x : ℕ) → slice_index (lives ps) x ≡ (place_at ps x).live
-live_is [] x = refl
-live_is (p ∷ ps) zero = refl
-live_is (p ∷ ps) (suc x) = live_is ps x
+live_is ps x = map_at (λ (p : Place). p.live) ps x no_place
 
 pub start_is : (ps : List Place) (x : ℕ) → slice_index_or (starts ps) x None ≡ start_of (kind_at ps x)
-start_is [] x = refl
-start_is (p ∷ ps) zero = refl
-start_is (p ∷ ps) (suc x) = start_is ps x
+start_is ps x = map_at (λ (p : Place). start_of p.kind) ps x no_place
 
 pub end_is : (ps : List Place) (x : ℕ) → slice_index_or (ends ps) x None ≡ end_of (kind_at ps x)
-end_is [] x = refl
-end_is (p ∷ ps) zero = refl
-end_is (p ∷ ps) (suc x) = end_is ps x
+end_is ps x = map_at (λ (p : Place). end_of p.kind) ps x no_place
 
 -- a place does not hold one with a lower number
 pub not_above : (us : List ℕ) → Earlier us → (k x y : ℕ) → y < x → among x (line_in us k y) ≡ false

@@ -9,6 +9,12 @@ use Rattle.makes.specs.Places.{kind_closed, with_kind, one_less, no_place, place
 use Rattle.makes.specs.Tree.{up, Earlier, Holds, itself, under, line, levels, climb_in, climb}
 use Rattle.makes.specs.TreeLemmas.{holds_trans, line_more, length_line, line_some, turn_first, turn_second}
 
+-- a column at a place is read off the place, also past the end
+pub map_at : {X Y : Type 0} (g : X → Y) (xs : List X) (i : ℕ) (d : X) → slice_index_or (map g xs) i (g d) ≡ g (slice_index_or xs i d)
+map_at g [] i d = refl
+map_at g (x ∷ xs) zero d = refl
+map_at g (x ∷ xs) (suc i) d = map_at g xs i d
+
 -- the parent of a place, in the table
 pub up_at : (ps : List Place) (x : ℕ) → up (parents ps) x ≡ (place_at ps x).parent
 up_at [] x = refl
