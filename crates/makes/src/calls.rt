@@ -1,4 +1,4 @@
-// The calls of the make order.
+// The calls of the make order. A place is cast by `as`, since no `From` goes between `u32` and `usize`.
 ghost use Rattle.std.specs.Prelude.{◌≡◌, ℕ, ◌+◌, ◌<◌, ◌≤◌, List, length, IfOk, Some, Decides};
 ghost use Rattle.order.specs.Machine.{Tells, Stamps};
 ghost use Rattle.order.specs.Runs.{Call, Alive};

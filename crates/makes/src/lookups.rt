@@ -35,7 +35,7 @@ impl Makes {
         ensures answer { result ≡ home_of_parent self.now parent }
         ensures within { IfSome result (λ h. h < length self.now.places) }
     {
-        // the session is a place
+        // Reads the tree and does nothing: so it is known that the session is a place.
         let _ = &self.tree;
         if parent == 0 {
             return Some(0);

@@ -4,7 +4,7 @@ ghost use Rattle.std.specs.Prelude.{◌≡◌, ◌<◌, ◌≤◌, Some};
 ghost use Rattle.makes.specs.Machine.{ends_before};
 ghost use Rattle.makes.specs.Places.{status_start, status_end, begun as status_begun, closed as status_closed, is_make, is_stand, targets_of, start_of, end_of, kind_begun, kind_declared, kind_closed, one_more, one_less};
 
-// How far a make has come, with the numbers at which it started and ended.
+// How far a make has come, with the numbers at which it started and ended. No `Span` in its place: the cases say which changes can follow.
 #[derive(Clone, Copy, Debug, PartialEq, Eq)]
 pub enum Status {
     Unstarted,

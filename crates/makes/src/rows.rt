@@ -43,5 +43,5 @@ pub fn all_declared(numbers: &[u16], targets: usize) -> bool
 {
     numbers
         .iter()
-        .all(|number| *number != 0 && usize::from(*number) <= targets)
+        .all(|number| (1..=targets).contains(&usize::from(*number)))
 }

@@ -1,5 +1,5 @@
-// The calls of the stage order.
-ghost use Rattle.std.specs.Prelude.{◌≡◌, ◌+◌, ◌&&◌, cond, List, map, length, IfOk, Some, None, Decides, nat_le};
+// The calls of the stage order. A place is cast by `as`, since no `From` goes between `u32` and `usize`.
+ghost use Rattle.std.specs.Prelude.{◌≡◌, ◌+◌, ◌≤◌, ◌&&◌, cond, List, map, length, IfOk, Some, None, Decides, nat_le};
 ghost use Rattle.order.specs.Machine.{Tells, Stamps};
 ghost use Rattle.order.specs.Runs.{Call, Alive};
 ghost use Rattle.stages.specs.Births.{stage_at, ended};
@@ -120,6 +120,7 @@ impl Order for Stages {
     fn number(&self) -> u32
         ensures answer { result ≡ (stages.means self.now).number }
         ensures valid { stages.valid self.now }
+        ensures room { (length self.now.births ≤ self.now.room) × (self.now.room ≤ 4096) }
     {
         self.number
     }

@@ -15,7 +15,7 @@ impl HeldPath {
         Ok(HeldPath { bytes })
     }
 
-    // The bytes of the path, which have the form.
+    // The bytes of the path. `form` tells a caller who goes on with the bytes alone what the type told before.
     pub fn as_bytes(&self) -> &[u8]
         ensures value { result.now ≡ self.now }
         ensures form { wellformed result.now ≡ true }
