@@ -30,7 +30,7 @@ twins() { # the names that more than one function has, and runs of four lines or
 proofs() { # how many goals a crate answers by hand, and how many lemmas it has
     local crate answers lemmas
     for crate in crates/*/; do
-        answers=$(find "$crate" -path '*/proofs/*' -name Answers.antt -exec cat {} + | grep -cE '^pub .* : goal\.' || true)
+        answers=$(find "$crate"proofs -name Answers.antt -exec cat {} + 2>/dev/null | grep -cE '^pub .* : goal\.' || true)
         lemmas=$(find "$crate"proofs -maxdepth 1 -name '*.antt' -exec cat {} + 2>/dev/null | grep -cE '^(abbrev )?pub [^ ]+ : ' || true)
         printf '== 8 %s: %d answers, %d lemmas in proofs/\n' "$(basename "$crate")" "$answers" "$lemmas"
     done
