@@ -1,31 +1,73 @@
 // The text that a log is listed as.
-ghost use Rattle.std.specs.Prelude.{◌≡◌, Some, IfOk};
+ghost use Rattle.std.specs.Prelude.{◌≡◌, ◌+◌, ◌<◌, ◌≤◌, ◌++◌, Some, IfOk, length};
+ghost use Rattle.std.specs.List.{flat_map};
+ghost use Rattle.std.specs.Str.{IsAscii};
+ghost use Rattle.std.specs.Fmt.{WritesOnOk};
 ghost use Rattle.std.specs.Option.{option_map};
 ghost use Rattle.trace_log.specs.Item.{item};
 ghost use Rattle.trace_log.specs.Whole.{record_of, stop_of};
-ghost use Rattle.log_list.specs.Lines.{letter as letter_of, numbers, shown_byte, shown_path, fields, tail, line, last_line, Lists, ListsWritten};
+ghost use Rattle.log_list.specs.Lines.{hex as hex_of, letter as letter_of, numbers, shown_byte, shown_path, fields, tail, line, last_line, Lists, ListsWritten};
 
+use arrayvec::ArrayVec;
 use std::alloc::{AllocError, Global};
 use std::fmt;
 use trace_log::contents::{Contents, Placed, Refusal, read_all};
 use trace_log::record::Record;
 
-// A byte of a path: itself where it prints as one, else \xHH.
-#[derive(Drop)]
-struct Shown(u8);
+// How many bytes of a path are shown at once: a text of its own for each takes several times as long.
+const PART: usize = 64;
 
-impl fmt::Display for Shown {
-    ghost output = { λ b. Some (shown_byte b.0) };
+// The room for what is shown of them.
+const SHOWN: usize = 4 * PART;
 
-    #[tactic(auto, using(std::proofs::lemmas::Fmt::hex_byte, crate::proofs::Texts::hidden))]
-    fn fmt<W: fmt::Write>(&self, f: &mut fmt::Formatter<W>) -> fmt::Result {
-        let b = self.0;
-        if b.is_ascii_graphic() && b != b'\\' {
-            f.write_char(char::from(b))
-        } else {
-            write!(f, "\\x{b:02x}")
-        }
+// A digit in base sixteen.
+fn hex(digit: u8) -> u8
+    requires { digit < 16 }
+    ensures { result ≡ hex_of digit }
+{
+    if digit < 10 {
+        b'0' + digit
+    } else {
+        b'a' + (digit - 10)
     }
+}
+
+// A byte of a path as it is shown: itself where it prints as one, else \xHH.
+fn push_byte(text: &mut ArrayVec<u8, SHOWN>, b: u8)
+    requires { length text.old.items + 4 ≤ 256 }
+    ensures { text.new.items ≡ text.old.items ++ shown_byte b }
+{
+    if b.is_ascii_graphic() && b != b'\\' {
+        text.push(b);
+    } else {
+        text.push(b'\\');
+        text.push(b'x');
+        text.push(hex(b / 16));
+        text.push(hex(b % 16));
+    }
+}
+
+// A part of a path as it is shown.
+fn shown(part: &[u8]) -> ArrayVec<u8, SHOWN>
+    requires few { length part.now ≤ 64 }
+    ensures bytes { result.items ≡ flat_map shown_byte part.now }
+    ensures ascii { IsAscii result.items }
+{
+    let mut text = ArrayVec::new();
+    for b in part {
+        push_byte(&mut text, *b);
+    }
+    text
+}
+
+// Writes a part of a path. What `unwrap` asks is the proof that what is shown is a text.
+#[tactic(auto, using(crate::proofs::Texts::ascii_text))]
+fn write_part<W: fmt::Write>(f: &mut fmt::Formatter<W>, part: &[u8]) -> fmt::Result
+    requires few { length part.now ≤ 64 }
+    ensures { WritesOnOk W.write_str_gives f.old result (flat_map shown_byte part.now) f.new }
+{
+    let text = shown(part);
+    f.write_str(str::from_utf8(text.as_slice()).unwrap())
 }
 
 // A path after a space.
@@ -36,11 +78,12 @@ impl fmt::Display for Path<'_> {
     ghost output = { λ p. Some (shown_path p.0.now) };
 
     fn fmt<W: fmt::Write>(&self, f: &mut fmt::Formatter<W>) -> fmt::Result {
-        write!(f, " ")?;
-        for b in self.0 {
-            write!(f, "{}", Shown(*b))?;
+        f.write_str(" ")?;
+        let (parts, rest) = self.0.as_chunks::<PART>();
+        for part in parts {
+            write_part(f, part)?;
         }
-        Ok(())
+        write_part(f, rest)
     }
 }
 
