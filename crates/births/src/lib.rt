@@ -14,11 +14,12 @@ pub struct Birth<T> {
 }
 
 impl<T> Birth<T> {
-    // Whether this is the birth of the process, and the process lives on.
+    // Whether this is the birth of the process, and the process lives on. The process is tested first: most births are of others, while
+    // which births live can't be foretold, so that a search which tests that first takes twice as long.
     pub fn is_live(&self, process: u32) -> bool
         ensures answer { result ≡ is_live self.now process }
     {
-        self.live && self.process == process
+        self.process == process && self.live
     }
 }
 

@@ -6,16 +6,14 @@ ghost use Rattle.paths.specs.Parents.{before_last, parent, root, LiesIn};
 
 use crate::borrowed::{Malformed, Path};
 use crate::form::{SLASH, is_wellformed};
+use memchr::memrchr;
 
 // How many bytes the parent has: those before the last slash, or the slash of "/" if there are none.
 fn parent_len(bytes: &[u8]) -> usize
     ensures value { result ≡ max (length (before_last bytes.now)) 1 }
     ensures inside { result ≤ max (length bytes.now) 1 }
 {
-    bytes
-        .iter()
-        .rposition(|b| *b == SLASH)
-        .map_or(1, |at| at.max(1))
+    memrchr(SLASH, bytes).map_or(1, |at| at.max(1))
 }
 
 // The path of these bytes, where they have the form.
