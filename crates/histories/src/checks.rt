@@ -6,6 +6,12 @@ ghost use Rattle.histories.specs.Lookups.{failed_lookup};
 use crate::accesses::{Checked, Race};
 use order::{Order, Timestamp};
 
+// No check was made.
+const NOTHING: Checked = Checked {
+    checks: 0,
+    failed: None,
+};
+
 impl Checked {
     // The number of the earlier access of the first check that failed; 0 if none did, as the rules have it (`entry.answer`).
     pub fn earlier(self) -> u32
@@ -15,18 +21,17 @@ impl Checked {
     }
 }
 
-// The checks against each of these, the newest first. All are asked, also after one has failed.
+// The checks against each of these, the newest first. All are asked, also after one has failed, and each is counted where it is asked.
 pub fn check_each<O: Order>(order: &O, earlier: &[Timestamp], new: Timestamp) -> Checked
     ensures answer { result ≡ checked (O.machine.means (O.model order.now)).before (reverse earlier.now) new }
 {
-    let failed = earlier.iter().rev().fold(None, |failed, at| {
+    earlier.iter().rev().fold(NOTHING, |found, at| {
         let fails = !order.before(*at, new);
-        failed.or(fails.then_some(*at))
-    });
-    Checked {
-        checks: earlier.len(),
-        failed,
-    }
+        Checked {
+            checks: found.checks.saturating_add(1),
+            failed: found.failed.or(fails.then_some(*at)),
+        }
+    })
 }
 
 // The failing pair after a check failed, or none did: the first one stays.
