@@ -40,6 +40,13 @@ impl<O: Order> Flags<O> {
         })
     }
 
+    // The order below, which says of itself what its type keeps.
+    pub fn below(&self) -> &O
+        ensures answer { result.now ≡ self.now.below }
+    {
+        &self.below
+    }
+
     // The post of a flag, if it is a flag and was posted.
     fn post_of(&self, flag: u8) -> Option<Timestamp>
         ensures answer { result ≡ post_of (flag_model O.Order.model self.now) flag }

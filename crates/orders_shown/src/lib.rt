@@ -1,7 +1,8 @@
 // The orders at work: a session over flags and stages, and worked rows that are evaluated.
 #![tactic(auto)]
 
-ghost use Rattle.std.specs.Prelude.{◌≡◌, true, length, IfOk};
+ghost use Rattle.std.specs.Prelude.{◌≡◌, ◌≤◌, true, length, IfOk};
+ghost use Rattle.order.specs.Meaning.{last_number};
 ghost use Rattle.order.specs.Runs.{Ran};
 ghost use Rattle.stages.specs.Machine.{stages, start};
 ghost use Rattle.flags.specs.Machine.{flagged, new_flags};
@@ -61,6 +62,14 @@ pub fn two_layers(heap: Global, room: usize) -> Result<Flags<Flags<Stages>>, All
     let stages = Stages::new(heap, room)?;
     let lower = Flags::new(heap, stages)?;
     Ok(Flags::new(heap, lower)?)
+}
+
+// The number of an order below a layer, and what that order keeps to, told through the layer.
+pub fn number_below(order: &Flags<Stages>) -> u32
+    ensures few { (result ≤ last_number) × (length order.now.below.births ≤ 4096) }
+    ensures valid { stages.valid order.now.below }
+{
+    order.below().number()
 }
 
 #[cfg(test)]
