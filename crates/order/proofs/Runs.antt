@@ -1,5 +1,5 @@
 -- What the law of orders says of whole runs.
-use Rattle.std.proofs.Common.{◌≡◌, ℕ, Bool, false, ◌⊎◌, List, ◌∷◌, Ok, Decides, Result, sym, refl, ap, ◌∙◌, inl, inr, ⊎_elim}
+use Rattle.std.proofs.Common.{◌≡◌, ℕ, ◌+◌, Bool, false, ◌⊎◌, List, ◌∷◌, length, Ok, Decides, Result, sym, refl, ap, ◌∙◌, inl, inr, ⊎_elim, arith}
 use Rattle.std.proofs.lemmas.Result.{MatchResult-at_ok}
 use Rattle.std.proofs.lemmas.Bool.{false≢true}
 use Rattle.std.proofs.lemmas.Bool.Decides.{Decides-eqb, Decides-not, Decides-and, Decides-or, Decides-like, Decides-at}
@@ -67,6 +67,12 @@ module _ (m : Machine) (right : Right m) (s : m.State) (valid : m.valid s) where
   ran_valid none = valid
   ran_valid (told r e) = (right.taken _ _ _ (ran_valid r) e).valid
   ran_valid (given r e) = (right.given _ _ _ _ (ran_valid r) e).valid
+
+  -- each accepted call takes one number
+  pub ran_counted : {calls : List Call} {t : m.State} → Ran m s calls t → (m.means t).number ≡ (m.means s).number + length calls
+  ran_counted none = omega arith
+  ran_counted (told r e) = let h = (right.taken _ _ _ (ran_valid r) e).advanced.counted in let i = ran_counted r in omega arith
+  ran_counted (given r e) = let h = (right.given _ _ _ _ (ran_valid r) e).advanced.counted in let i = ran_counted r in omega arith
 
   -- who lives, where nobody lived at first
   pub ran_lives : ((p : ℕ) → (m.means s).lives p ≡ false) → {calls : List Call} {t : m.State} → Ran m s calls t → (p : ℕ) → Decides ((m.means t).lives p) (Alive p calls)
