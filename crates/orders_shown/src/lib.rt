@@ -66,6 +66,7 @@ pub fn two_layers(heap: Global, room: usize) -> Result<Flags<Flags<Stages>>, All
 
 // The number of an order below a layer, and what that order keeps to, told through the layer.
 pub fn number_below(order: &Flags<Stages>) -> u32
+    ensures answer { result ≡ (stages.means order.now.below).number }
     ensures few { (result ≤ last_number) × (length order.now.below.births ≤ 4096) }
     ensures valid { stages.valid order.now.below }
 {
