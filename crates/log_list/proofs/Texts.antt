@@ -5,8 +5,8 @@ use Rattle.std.specs.Str.{IsAscii, IsUtf8}
 use Rattle.std.proofs.lemmas.List.{take_more, take_all, take-append-drop, drop-drop, length-append}
 use Rattle.std.proofs.lemmas.List.Concat.{flat_map-append}
 use Rattle.std.proofs.lemmas.Str.{IsAscii-append, IsUtf8-from_ascii}
+use Rattle.std.proofs.lemmas.Str.Ascii.{IsAscii-cons, IsAscii-nil}
 use Rattle.std.specs.List.{flat_map}
-use Rattle.std.specs.Char.{is_ascii_graphic}
 use Rattle.std.proofs.lemmas.Bool.Decides.{nat_tests}
 use Rattle.log_list.specs.Lines.{fields, hex, shown_byte, shown_path}
 
@@ -22,17 +22,6 @@ pub record Shown (bs : List ℕ) (i : ℕ) (xs : List ℕ) : Type 0 where
   pub few : length xs ≤ 4 * i
   pub ascii : IsAscii xs
 
-four_ascii : (a b c d : ℕ) → a < 128 → b < 128 → c < 128 → d < 128 → IsAscii (a ∷ b ∷ c ∷ d ∷ [])
-four_ascii a b c d ha hb hc hd zero = ha
-four_ascii a b c d ha hb hc hd (suc zero) = hb
-four_ascii a b c d ha hb hc hd (suc (suc zero)) = hc
-four_ascii a b c d ha hb hc hd (suc (suc (suc zero))) = hd
-four_ascii a b c d ha hb hc hd (suc (suc (suc (suc i)))) = omega arith
-
-one_ascii : (a : ℕ) → a < 128 → IsAscii (a ∷ [])
-one_ascii a ha zero = ha
-one_ascii a ha (suc i) = omega arith
-
 hex_ascii : (d : ℕ) → d < 16 → hex d < 128
 hex_ascii d h = grind (arith, nat_tests)
 
@@ -43,9 +32,15 @@ shown_is b false e = inr (refl, grind (arith, nat_tests))
 
 -- it is short, and ASCII
 shown_ascii : (b : ℕ) → b < 256 → IsAscii (shown_byte b) × (length (shown_byte b) ≤ 4)
-shown_ascii b h = ⊎_elim
-    (λ e. (subst IsAscii (sym e) (four_ascii _ _ _ _ (omega arith) (omega arith) (hex_ascii (b / 16) (omega arith)) (hex_ascii (b % 16) (omega arith))), omega (arith, ap length e)))
-    (λ e. (subst IsAscii (sym e.0) (one_ascii b e.1), omega (arith, ap length e.0)))
+shown_ascii b h =
+    let hi = hex (b / 16) in
+    let lo = hex (b % 16) in
+    let low : IsAscii (lo ∷ []) = IsAscii-cons lo [] (hex_ascii (b % 16) (omega arith)) IsAscii-nil in
+    let both : IsAscii (hi ∷ lo ∷ []) = IsAscii-cons hi (lo ∷ []) (hex_ascii (b / 16) (omega arith)) low in
+    let all = IsAscii-cons 92 (120 ∷ hi ∷ lo ∷ []) (omega arith) (IsAscii-cons 120 (hi ∷ lo ∷ []) (omega arith) both) in
+    ⊎_elim
+    (λ e. (subst IsAscii (sym e) all, omega (arith, ap length e)))
+    (λ e. (subst IsAscii (sym e.0) (IsAscii-cons b [] e.1 IsAscii-nil), omega (arith, ap length e.0)))
     (shown_is b _ refl)
 
 -- one byte more
@@ -72,10 +67,6 @@ parts_shown n (suc k) bs =
 pub parts_all : (bs : List ℕ) (ps : List (List ℕ)) (rest : List ℕ) (i k : ℕ) → ps ≡ first_chunks 64 k bs → rest ≡ drop (k * 64) bs → length ps ≤ i → (32 ∷ flat_map (flat_map shown_byte) (take i ps)) ++ flat_map shown_byte rest ≡ shown_path bs
 parts_all bs ps rest i k are left all = ap (λ l. 32 ∷ l) ((λ j. flat_map (flat_map shown_byte) ((take_all i ps all ∙ are) j) ++ flat_map shown_byte (left j)) ∙ parts_shown 64 k bs)
 
--- a byte that does not print as itself
-pub hidden : (b : ℕ) (t : Bool) → t ≡ is_ascii_graphic b → ((t ≡ true) × (b ≡ 92)) ⊎ (t ≡ false) → shown_byte b ≡ 92 ∷ 120 ∷ hex (b / 16) ∷ hex (b % 16) ∷ []
-hidden b t is h = grind (arith, nat_tests)
-
--- ASCII bytes are a text
+-- ASCII bytes are a text: the library's lemma, under a name that an attribute can cite
 pub ascii_text : (bs : List ℕ) → IsAscii bs → IsUtf8 bs
 ascii_text = IsUtf8-from_ascii
